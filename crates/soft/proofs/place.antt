@@ -1,0 +1,2 @@
+-- What the proofs of `place` share.
+mod Shift

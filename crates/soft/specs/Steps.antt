@@ -1,0 +1,14 @@
+-- What the steps inside `pack` and `fma` compute: no reader of a contract needs these. Assumes nothing.
+use Prim.Native.Nat.{ℕ, _+_, _-_, _*_, _/_, _%_, _^_}
+use mathlib.Core.Bool.{Bool, true, false, not, cond, _||_}
+use lib.Dec.{ltb, eqb}
+use Rattle.soft.specs.declared.pack.Scaled.{Scaled}
+
+abbrev pickScaled : Bool → Scaled → Scaled → Scaled
+pickScaled true a b = a
+pickScaled false a b = b
+
+unfoldable pub foldDef : ℕ → Bool → Scaled
+foldDef q s =
+    pickScaled (ltb q (2 ^ 62)) (record { digits = q * 2 + cond s 1 0; places = 0 })
+    (record { digits = q / 4 * 2 + cond (s || not (eqb (q % 4) 0)) 1 0; places = 2 })

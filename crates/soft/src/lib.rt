@@ -1,0 +1,11 @@
+// Float arithmetic that Rust takes from its library, done on whole numbers, for f32 and f64: a float
+// taken apart (`decode`) and put together (`pack`), narrowed, rounded to a whole number, and the
+// fused multiply-add. Each contract equates the answer to a definition of specs/, and none asks
+// anything of its caller.
+pub mod decode;
+pub mod fma;
+pub mod narrow;
+pub mod pack;
+pub mod round;
+mod place;
+mod units;

@@ -1,0 +1,72 @@
+// A float put together: the nearest to ±(q + a little where `sticky` is set) * 2^e.
+ghost use mathlib.Core.Path.{_≡_};
+ghost use mathlib.Core.Bool.{cond, _||_};
+ghost use Prim.Native.Nat.{_+_, _*_, _^_};
+ghost use lib.Ieee.{binary32, binary64, up, down};
+ghost use lib.Dec.{T};
+ghost use lib.IntN.{negsuc};
+ghost use lib.Signed.{leZ};
+ghost use Rattle.soft.specs.Pack.{packDef};
+ghost use Rattle.soft.specs.Steps.{foldDef};
+use crate::place::place_f32;
+use crate::place::place_f64;
+
+// A number of at most 63 digits, and a power of two to go with it.
+pub struct Scaled {
+    pub digits: u64,
+    pub places: u64,
+}
+
+pub fn bit(b: bool) -> u64
+    ensures { λ r. ⌜ r ≡ cond b 1 0 ⌝ }
+{
+    if b { 1 } else { 0 }
+}
+
+pub fn either(a: bool, b: bool) -> bool
+    ensures { λ r. ⌜ r ≡ (a || b) ⌝ }
+{
+    if a { true } else { b }
+}
+
+// 2q and the sticky bit, in halves; the two last digits of a q of 63 or 64 digits join that bit.
+fn fold(q: u64, sticky: bool) -> Scaled
+    ensures { λ r. ⌜ r ≡ foldDef q sticky ⌝ }
+{
+    if q < 0x4000_0000_0000_0000 {
+        return Scaled { digits: q * 2 + bit(sticky), places: 0 };
+    }
+    let more = q % 4 != 0;
+    Scaled { digits: q / 4 * 2 + bit(either(sticky, more)), places: 2 }
+}
+
+// e + 2254: the exponent counted from 2^-2254.
+fn lift(e: i64) -> u64
+    requires { ⌜ T (leZ (negsuc 2253) e) ⌝ }
+    ensures { λ r. ⌜ up e * 2 ^ 2254 ≡ 2 ^ r * down e ⌝ }
+{
+    if e >= 0 {
+        return e as u64 + 2254;
+    }
+    (e + 2254) as u64
+}
+
+pub fn pack_f64(negative: bool, q: u64, sticky: bool, e: i64) -> f64
+    ensures { λ r. ⌜ r ≡ packDef binary64 negative q sticky e ⌝ }
+{
+    if e < -2254 {
+        return place_f64(negative, 0, 0);
+    }
+    let v = fold(q, sticky);
+    place_f64(negative, v.digits, lift(e) + v.places)
+}
+
+pub fn pack_f32(negative: bool, q: u64, sticky: bool, e: i64) -> f32
+    ensures { λ r. ⌜ r ≡ packDef binary32 negative q sticky e ⌝ }
+{
+    if e < -2254 {
+        return place_f32(negative, 0, 0);
+    }
+    let v = fold(q, sticky);
+    place_f32(negative, v.digits, lift(e) + v.places)
+}

@@ -1,0 +1,6 @@
+pub mod Laws
+pub mod Columns
+pub mod Shifts
+pub mod Carries
+pub mod Tests
+pub mod Sizes
