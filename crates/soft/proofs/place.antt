@@ -1,2 +1,3 @@
 -- What the proofs of `place` share.
+mod Made
 mod Shift

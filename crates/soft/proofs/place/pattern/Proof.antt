@@ -69,8 +69,9 @@ add-least c =
     let s = c .before .before .before .before .before in
     let m = moved (s .args .v) (c .before .before .before .digits64 .result) (s .pre .0) (c .before .before .before .digits64 .ensures) in
     let n = normalised-lt (s .args .v) (s .pre .0) in
+    let u = 2 ^ (s .args .g + c .before .before .excess .result - (s .args .x + c .before .before .before .digits64 .result)) in
     record { fits = sum-fits (c .before .before .excess .result) (s .args .hid) (s .args .ones) (c .nearest .result) (normalised (s .args .v)) (c .before .if2 .left) (s .pre .4)
-      (subst (λ (y : ℕ). y ≤ normalised (s .args .v) + 1) (sym (c .nearest .ensures ∙ ap (λ (y : ℕ). closest y _) m)) (closest-le (normalised (s .args .v)) _)) n }
+      (subst (λ (y : ℕ). y ≤ normalised (s .args .v) + 1) (sym (c .nearest .ensures ∙ ap (λ (y : ℕ). closest y u) m)) (closest-le (normalised (s .args .v)) u)) n }
 
 mul-least-2 : tie.Need-mul-least-2
 mul-least-2 c = search needs
@@ -84,8 +85,9 @@ returns-3 c =
     let z = c .before .before .before .before .digits64 .ensures in
     let k = c .before .before .before .excess .ensures in
     let m = moved (s .args .v) (c .before .before .before .before .digits64 .result) (s .pre .0) z in
+    let u = 2 ^ (s .args .g + c .before .before .before .excess .result - (s .args .x + c .before .before .before .before .digits64 .result)) in
     c .least .ensures
-    ∙ ap (λ (y : ℕ). min (c .before .before .before .excess .result * s .args .hid + y) (s .args .ones * s .args .hid)) (c .before .nearest .ensures ∙ ap (λ (y : ℕ). closest y _) m)
+    ∙ ap (λ (y : ℕ). min (c .before .before .before .excess .result * s .args .hid + y) (s .args .ones * s .args .hid)) (c .before .nearest .ensures ∙ ap (λ (y : ℕ). closest y u) m)
     ∙ ap (λ (y : ℕ). min (y * s .args .hid + closest (normalised (s .args .v)) (2 ^ (s .args .g + y - (s .args .x + c .before .before .before .before .digits64 .result)))) (s .args .ones * s .args .hid)) k
     ∙ ap (λ (y : ℕ). patternOf (s .args .g) (s .args .t) (s .args .hid) (s .args .ones) (normalised (s .args .v)) (s .args .x + y)) z
     ∙ sym (placed-pos (s .args .g) (s .args .t) (s .args .hid) (s .args .ones) (s .args .v) (s .args .x) (c .before .before .before .before .before .if1 .left))

@@ -1,33 +1,52 @@
+-- `soft::place::place_f32` meets its contract: the pattern is that of the nearest float, and no NaN's. Assumes nothing.
+use Prim.Native.Nat.{ℕ, _+_, _*_, _^_, _≤_, _<_}
+use mathlib.Core.Path.{_≡_, refl, sym, subst}
+use native.Mathlib.Omega.{arith}
+use lib.Ieee.{binary32}
+use Rattle.rounding.proofs.Place.{placedBits}
+use mir.Syntax.{w32, w64}
+use mir.Val.{Fits}
 use borrow.Author.Needs.{needs}
+use Rattle.soft.proofs.place.Made.{placed-le, minus, plus, minus-not-nan, plus-not-nan}
 use Rattle.soft.proofs.place.place_f32.Statement.{statement}
 use Rattle.soft.proofs.place.place_f32.Tie as tie
-use Rattle.soft.proofs.place.place_f32.Reads as reads
-use Rattle.soft.proofs.place.place_f32.Lts as lts
-use Rattle.soft.proofs.place.pattern.Reads as pattern-reads
+
+-- below an infinity's pattern
+small : (b v x : ℕ) → b ≡ placedBits 2169 2130 0x80_0000 255 v x → b ≤ 255 * 0x80_0000
+small b v x e = subst (λ (y : ℕ). y ≤ 255 * 0x80_0000) (sym e) (placed-le 2169 2130 0x80_0000 255 v x)
+
+signed-fits : (b : ℕ) → b ≤ 255 * 0x80_0000 → Fits w64 (2 ^ 31 + b)
+signed-fits b h = record { fits = omega arith }
+
+signed-fits32 : (b : ℕ) → b ≤ 255 * 0x80_0000 → Fits w32 (2 ^ 31 + b)
+signed-fits32 b h = record { fits = omega arith }
+
+fits32 : (b : ℕ) → b ≤ 255 * 0x80_0000 → Fits w32 b
+fits32 b h = record { fits = omega arith }
 
 pattern-requires : tie.Need-pattern-requires
 pattern-requires c κs = search needs
 
 add-result : tie.Need-add-result
-add-result c = ?
+add-result c = signed-fits (c .before .pattern .result) (small (c .before .pattern .result) (c .before .before .args .v) (c .before .before .args .x) (c .before .pattern .ensures))
 
 cast-result : tie.Need-cast-result
-cast-result c = ?
+cast-result c = signed-fits32 (c .before .pattern .result) (small (c .before .pattern .result) (c .before .before .args .v) (c .before .before .args .x) (c .before .pattern .ensures))
 
 float-from-bits-result : tie.Need-float-from-bits-result
-float-from-bits-result c = ?
+float-from-bits-result c = minus-not-nan binary32 2169 2130 2255 refl refl (c .before .before .args .v) (c .before .before .args .x) (c .before .pattern .result) (c .before .before .pre .0) (c .before .pattern .ensures)
 
 returns : tie.Need-returns
-returns c = ?
+returns c = minus binary32 2169 2130 2255 refl refl (c .before .before .args .v) (c .before .before .args .x) (c .before .pattern .result) (c .before .before .pre .0) (c .before .pattern .ensures) (c .before .before .args .negative) (c .if1 .taken)
 
 cast-result-2 : tie.Need-cast-result-2
-cast-result-2 c = ?
+cast-result-2 c = fits32 (c .before .pattern .result) (small (c .before .pattern .result) (c .before .before .args .v) (c .before .before .args .x) (c .before .pattern .ensures))
 
 float-from-bits-result-2 : tie.Need-float-from-bits-result-2
-float-from-bits-result-2 c = ?
+float-from-bits-result-2 c = plus-not-nan binary32 2169 2130 2255 refl refl (c .before .before .args .v) (c .before .before .args .x) (c .before .pattern .result) (c .before .before .pre .0) (c .before .pattern .ensures)
 
 returns-2 : tie.Need-returns-2
-returns-2 c = ?
+returns-2 c = plus binary32 2169 2130 2255 refl refl (c .before .before .args .v) (c .before .before .args .x) (c .before .pattern .result) (c .before .before .pre .0) (c .before .pattern .ensures) (c .before .before .args .negative) (c .if1 .left)
 
 pub place-f32-spec : {M : Type 1} → statement M
 place-f32-spec =
