@@ -3,3 +3,4 @@ pub mod Closest
 pub mod Pattern
 pub mod Place
 pub mod Sticky
+pub mod Tiny

@@ -4,7 +4,7 @@ use mathlib.Core.Bool.{Bool, true, false, not, cond, _||_}
 use lib.Dec.{ltb, eqb}
 use Rattle.soft.specs.declared.pack.Scaled.{Scaled}
 
-abbrev pickScaled : Bool → Scaled → Scaled → Scaled
+abbrev pub pickScaled : Bool → Scaled → Scaled → Scaled
 pickScaled true a b = a
 pickScaled false a b = b
 

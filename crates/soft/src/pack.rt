@@ -1,7 +1,7 @@
 // A float put together: the nearest to ±(q + a little where `sticky` is set) * 2^e.
 ghost use mathlib.Core.Path.{_≡_};
 ghost use mathlib.Core.Bool.{cond, _||_};
-ghost use Prim.Native.Nat.{_+_, _*_, _^_};
+ghost use Prim.Native.Nat.{_+_, _*_, _^_, _<_};
 ghost use lib.Ieee.{binary32, binary64, up, down};
 ghost use lib.Dec.{T};
 ghost use lib.IntN.{negsuc};
@@ -43,7 +43,7 @@ fn fold(q: u64, sticky: bool) -> Scaled
 // e + 2254: the exponent counted from 2^-2254.
 fn lift(e: i64) -> u64
     requires { ⌜ T (leZ (negsuc 2253) e) ⌝ }
-    ensures { λ r. ⌜ up e * 2 ^ 2254 ≡ 2 ^ r * down e ⌝ }
+    ensures { λ r. ⌜ (up e * 2 ^ 2254 ≡ 2 ^ r * down e) × (r < 2 ^ 63 + 2254) ⌝ }
 {
     if e >= 0 {
         return e as u64 + 2254;

@@ -38,7 +38,7 @@ fn nearest(v: u64, d: u64) -> u64
 // is 2^g of v's units once v has 63 digits, whose normal range begins at the exponent t, whose
 // exponent's field weighs `hid` and is `ones` in an infinity.
 fn pattern(v: u64, x: u64, g: u64, t: u64, hid: u64, ones: u64) -> u64
-    requires { ⌜ (v < 2 ^ 63) × (x < 2 ^ 63) × (t < g) × (g < 2 ^ 12) × (ones * hid < 2 ^ 63) ⌝ }
+    requires { ⌜ (v < 2 ^ 63) × (x < 2 ^ 63 + 2 ^ 12) × (t < g) × (g < 2 ^ 12) × (ones * hid < 2 ^ 63) ⌝ }
     ensures { λ r. ⌜ r ≡ placedBits g t hid ones v x ⌝ }
 {
     if v == 0 {
@@ -55,7 +55,7 @@ fn pattern(v: u64, x: u64, g: u64, t: u64, hid: u64, ones: u64) -> u64
 }
 
 pub fn place_f64(negative: bool, v: u64, x: u64) -> f64
-    requires { ⌜ (v < 2 ^ 63) × (x < 2 ^ 63) ⌝ }
+    requires { ⌜ (v < 2 ^ 63) × (x < 2 ^ 63 + 2 ^ 12) ⌝ }
     ensures { λ r. ⌜ r ≡ round binary64 negative (v * 2 ^ x) (2 ^ 2255) ⌝ }
 {
     let b = pattern(v, x, 1244, 1234, 0x10_0000_0000_0000, 2047);
@@ -66,7 +66,7 @@ pub fn place_f64(negative: bool, v: u64, x: u64) -> f64
 }
 
 pub fn place_f32(negative: bool, v: u64, x: u64) -> f32
-    requires { ⌜ (v < 2 ^ 63) × (x < 2 ^ 63) ⌝ }
+    requires { ⌜ (v < 2 ^ 63) × (x < 2 ^ 63 + 2 ^ 12) ⌝ }
     ensures { λ r. ⌜ r ≡ round binary32 negative (v * 2 ^ x) (2 ^ 2255) ⌝ }
 {
     let b = pattern(v, x, 2169, 2130, 0x80_0000, 255);

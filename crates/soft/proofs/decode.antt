@@ -1,0 +1,2 @@
+-- What the proofs of `decode` share.
+mod Kind

@@ -1,0 +1,3 @@
+-- What the proofs of `pack` share.
+mod Exponent
+mod Packed

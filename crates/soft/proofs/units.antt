@@ -1,0 +1,2 @@
+-- What the proofs of `units` show of a finite float.
+pub mod Value
