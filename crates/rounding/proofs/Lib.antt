@@ -4,3 +4,4 @@ pub mod Pattern
 pub mod Place
 pub mod Sticky
 pub mod Tiny
+pub mod Sum

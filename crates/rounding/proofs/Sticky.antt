@@ -1,10 +1,10 @@
 -- A number that lies strictly between w and w + 1, in units of 2 ^ y, rounds as w and a half does, where w has more digits than the format keeps:
 -- of what was cut off, only "something is left" counts. So one bit, the sticky bit, stands for it. Assumes nothing.
 use mathlib.Core.Path.{_≡_, refl, sym, ap, ap₂, _∙_, subst}
-use mathlib.Core.Bool.{Bool, true, false, not, cond}
+use mathlib.Core.Bool.{Bool, true, false, not, cond, _||_}
 use mathlib.Core.Logic.{_⊎_, inl, inr}
 use Prim.Native.Nat.{ℕ, zero, suc, _+_, _-_, _*_, _/_, _%_, _^_, _≤_, _<_, compare, Ordering, Ordering·lt, Ordering·gt}
-use native.Mathlib.Nat.{le-refl, le-trans, le-of-eq, le-of-lt, lt-of-lt-of-le, lt-of-le-of-lt, le-antisymm, le-of-suc-le-suc, lt-of-not-le, not-le-of-lt, lt-irrefl, mul-le-mul-left, mul-le-mul-right, mul-lt-mul-of-pos-right, lt-of-mul-lt-mul-right, mul-pos, mul-assoc, mul-comm, mul-left-comm, mul-one, one-mul, div-add-mod', mod-lt, div-lt-iff-lt-mul, le-div-iff-mul-le, add-sub-of-le, sub-add-cancel}
+use native.Mathlib.Nat.{add-zero, le-refl, le-trans, le-of-eq, le-of-lt, lt-of-lt-of-le, lt-of-le-of-lt, le-antisymm, le-of-suc-le-suc, lt-of-not-le, not-le-of-lt, lt-irrefl, mul-le-mul-left, mul-le-mul-right, mul-lt-mul-of-pos-right, lt-of-mul-lt-mul-right, mul-pos, mul-assoc, mul-comm, mul-left-comm, mul-one, one-mul, div-add-mod', mod-lt, div-lt-iff-lt-mul, le-div-iff-mul-le, add-sub-of-le, sub-add-cancel}
 use native.Mathlib.Omega.{arith}
 use lib.Dec.{T, ltb, leb, ltb→lt, nltb→le, leb→le, nleb→lt}
 use lib.Pow.{pow-pos, pow-add, pow-mono}
@@ -221,15 +221,62 @@ abbrev pub bit : Bool → ℕ
 bit true = 1
 bit false = 0
 
-abbrev pub Cut : Format → (x w y : ℕ) → Bool → Type 0
-Cut f x w y true = (w * 2 ^ y < x) × (x < (w + 1) * 2 ^ y) × (2 ^ prec f ≤ w)
-Cut f x w y false = x ≡ w * 2 ^ y
+-- and where it is, w is at least m
+abbrev pub Cut : (m x w y : ℕ) → Bool → Type 0
+Cut m x w y true = (w * 2 ^ y < x) × (x < (w + 1) * 2 ^ y) × (m ≤ w)
+Cut m x w y false = x ≡ w * 2 ^ y
 
-pub cut-rounds : (f : Format) (s : Bool) (x w y u : ℕ) (b : Bool) → Cut f x w y b → round f s x (2 ^ u) ≡ round f s ((w * 2 + bit b) * 2 ^ y) (2 ^ (u + 1))
-cut-rounds f s x w y u true h = sticky f s x w y u (h .0) (h .1) (h .2)
-cut-rounds f s x w y u false e =
+pub cut-rounds : (f : Format) (s : Bool) (m x w y u : ℕ) (b : Bool) → 2 ^ prec f ≤ m → Cut m x w y b → round f s x (2 ^ u) ≡ round f s ((w * 2 + bit b) * 2 ^ y) (2 ^ (u + 1))
+cut-rounds f s m x w y u true g h = sticky f s x w y u (h .0) (h .1) (le-trans g (h .2))
+cut-rounds f s m x w y u false g e =
     round-same f s x (2 ^ u) ((w * 2 + 0) * 2 ^ y) (2 ^ (u + 1)) (pow-pos u) (pow-pos (u + 1))
     (ap (λ (z : ℕ). z * 2 ^ (u + 1)) e ∙ ap (λ (z : ℕ). w * 2 ^ y * z) (pow-add 2 u 1) ∙ swap w (2 ^ y) (2 ^ u))
   where
     swap : (w y u : ℕ) → w * y * (u * 2) ≡ (w * 2 + 0) * y * u
     swap w y u = omega arith
+
+-- ---- cut again, n digits higher: what is lost joins the bit
+module _ (x w y n : ℕ) where
+  abbrev q : ℕ
+  q = w / 2 ^ n
+
+  place : (v : ℕ) → v * 2 ^ (y + n) ≡ v * 2 ^ n * 2 ^ y
+  place v = ap (λ (z : ℕ). v * z) (pow-add 2 y n ∙ mul-comm (2 ^ y) (2 ^ n)) ∙ sym (mul-assoc v (2 ^ n) (2 ^ y))
+
+  whole : q * 2 ^ n + w % 2 ^ n ≡ w
+  whole = div-add-mod' w (2 ^ n)
+
+  next : w + 1 ≤ (q + 1) * 2 ^ n
+  next = step (2 ^ n) q (w % 2 ^ n) w whole (mod-lt w (pow-pos n))
+    where
+      step : (p q r w : ℕ) → q * p + r ≡ w → r < p → w + 1 ≤ (q + 1) * p
+      step p q r w e h = omega arith
+
+  below : x < (w + 1) * 2 ^ y → x < (q + 1) * 2 ^ (y + n)
+  below h = lt-of-lt-of-le h (le-trans (mul-le-mul-right (2 ^ y) next) (le-of-eq (sym (place (q + 1)))))
+
+  from : w * 2 ^ y < x → q * 2 ^ (y + n) < x
+  from h = lt-of-le-of-lt (le-trans (le-of-eq (place q)) (mul-le-mul-right (2 ^ y) (least (q * 2 ^ n) (w % 2 ^ n) w whole))) h
+    where
+      least : (a r w : ℕ) → a + r ≡ w → a ≤ w
+      least a r w e = omega arith
+
+  over : (w % 2 ^ n ≡ 0 → ⊥) → q * 2 ^ n < w
+  over h = more (q * 2 ^ n) (w % 2 ^ n) w whole h
+    where
+      more : (a r w : ℕ) → a + r ≡ w → (r ≡ 0 → ⊥) → a < w
+      more a zero w e h = absurd (h refl)
+      more a (suc r) w e h = omega arith
+
+  pub cut-again : (m k : ℕ) (b c : Bool) → Cut m x w y b → (T c → w % 2 ^ n ≡ 0) → (T (not c) → w % 2 ^ n ≡ 0 → ⊥) → (T (b || not c) → k ≤ q) → Cut k x q (y + n) (b || not c)
+  cut-again m k true c h z l g = (from (h .0), below (h .1), g tt)
+  cut-again m k false true e z l g =
+      e ∙ ap (λ (v : ℕ). v * 2 ^ y) (sym (sym (add-zero (q * 2 ^ n)) ∙ ap (λ (r : ℕ). q * 2 ^ n + r) (sym (z tt)) ∙ whole)) ∙ sym (place q)
+  cut-again m k false false e z l g = (
+    lt-of-le-of-lt (le-of-eq (place q)) (lt-of-lt-of-le (mul-lt-mul-of-pos-right (over (l tt)) (pow-pos y)) (le-of-eq (sym e))),
+    below (lt-of-le-of-lt (le-of-eq e) (mul-lt-mul-of-pos-right (one-more w) (pow-pos y))),
+    g tt,
+  )
+    where
+      one-more : (w : ℕ) → w < w + 1
+      one-more w = omega arith

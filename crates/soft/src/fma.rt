@@ -1,14 +1,21 @@
 // The fused multiply-add: x * y + z, rounded once.
 ghost use mathlib.Core.Path.{_≡_};
+ghost use Prim.Native.Nat.{_-_, _*_, _^_, _≤_, _<_};
+ghost use lib.Ieee as Ieee;
 ghost use lib.Ieee.{binary32, binary64};
+ghost use Rattle.wide.specs.Value.{valueOf};
 ghost use Rattle.soft.specs.Fma.{fmaDef};
+ghost use Rattle.soft.specs.Steps.{Ready, Full, Merged, squeezeDef};
+use crate::flags::bit;
+use crate::flags::both;
+use crate::flags::either;
+use crate::flags::unlike;
 use crate::pack::Scaled;
-use crate::pack::bit;
-use crate::pack::either;
 use crate::place::excess;
 use crate::place::least;
 use crate::place::place_f32;
 use crate::place::place_f64;
+use crate::units::Units;
 use crate::units::is_finite;
 use crate::units::measure;
 use wide::Wide;
@@ -21,42 +28,78 @@ pub struct Sum {
     pub places: u64,
 }
 
-// The finite double x, not zero, with its digits moved up to 53: |x| is digits * 2^places / 2^1127.
-fn full(x: f64) -> Scaled {
-    let u = measure(x);
-    let z = wide::digits64(u.digits);
-    Scaled { digits: u.digits << (53 - z), places: u.places + z }
+// The digits moved up to 53, with 2^-53 for the new unit.
+fn full(digits: u64, places: u64) -> Scaled
+    requires { ⌜ (0 < digits) × (digits < 2 ^ 53) × (places < 2 ^ 11) ⌝ }
+    ensures { λ r. ⌜ Full digits places r ⌝ }
+{
+    let z = wide::digits64(digits);
+    Scaled {
+        digits: digits << (53 - z),
+        places: places + z,
+    }
 }
 
 // ± big * 2^e and ± small * 2^(e - d), both of 105 or 106 digits, added. What of the small one
 // reaches below the 20 places that the big one has to spare goes into the sticky bit.
-fn merge(sb: bool, big: Wide, ss: bool, small: Wide, d: u64, e: u64) -> Sum {
+fn merge(sb: bool, big: Wide, ss: bool, small: Wide, d: u64, e: u64) -> Sum
+    requires { ⌜ (2 ^ 104 ≤ valueOf big) × (valueOf big < 2 ^ 106) × (2 ^ 104 ≤ valueOf small) × (valueOf small < 2 ^ 106) × (d ≤ e) × (e < 2 ^ 13) ⌝ }
+    ensures { λ r. ⌜ Merged sb (valueOf big * 2 ^ e) ss (valueOf small * 2 ^ (e - d)) r ⌝ }
+{
     let room = least(d, 20);
+    let far = d - room;
     let b = wide::shl(big, room);
-    let s = wide::shr(small, d - room);
-    let sticky = wide::lost(small, d - room);
+    let s = wide::shr(small, far);
+    let sticky = wide::lost(small, far);
     let places = e - room;
     if sb == ss {
-        return Sum { negative: sb, whole: wide::sum(b, s), sticky, places };
+        let whole = wide::sum(b, s);
+        return Sum {
+            negative: sb,
+            whole,
+            sticky,
+            places,
+        };
     }
     if wide::less(s, b) {
-        let below = Wide { high: 0, low: bit(sticky) };
-        return Sum { negative: sb, whole: wide::difference(wide::difference(b, s), below), sticky, places };
+        let below = Wide {
+            high: 0,
+            low: bit(sticky),
+        };
+        let whole = wide::difference(wide::difference(b, s), below);
+        return Sum {
+            negative: sb,
+            whole,
+            sticky,
+            places,
+        };
     }
-    Sum { negative: ss && wide::less(b, s), whole: wide::difference(s, b), sticky: false, places }
+    let negative = both(ss, wide::less(b, s));
+    let whole = wide::difference(s, b);
+    Sum {
+        negative,
+        whole,
+        sticky: false,
+        places,
+    }
 }
 
 // x * y + z for finite doubles that are not zero, cut to two words, in units of 2^-2254.
-fn fused(x: f64, y: f64, z: f64) -> Sum {
-    let a = full(x);
-    let b = full(y);
-    let c = full(z);
+fn fused(x: Units, y: Units, z: Units) -> Sum
+    requires { ⌜ Ready x × Ready y × Ready z ⌝ }
+    ensures { λ r. ⌜ Merged (Ieee.unlike (x .negative) (y .negative))
+        (x .digits * 2 ^ x .places * (y .digits * 2 ^ y .places) * 2 ^ 106) (z .negative)
+        (z .digits * 2 ^ z .places * 2 ^ 1180) r ⌝ }
+{
+    let a = full(x.digits, x.places);
+    let b = full(y.digits, y.places);
+    let c = full(z.digits, z.places);
     let p = wide::product(a.digits, b.digits);
     let pe = a.places + b.places;
     let q = wide::product(c.digits, 0x10_0000_0000_0000);
     let qe = c.places + 1075;
-    let sp = (x < 0.0) != (y < 0.0);
-    let sq = z < 0.0;
+    let sp = unlike(x.negative, y.negative);
+    let sq = z.negative;
     if qe <= pe {
         return merge(sp, p, sq, q, pe - qe, pe);
     }
@@ -64,10 +107,16 @@ fn fused(x: f64, y: f64, z: f64) -> Sum {
 }
 
 // The first 62 digits, and the sticky bit after them.
-fn squeeze(w: Wide, sticky: bool) -> Scaled {
+fn squeeze(w: Wide, sticky: bool) -> Scaled
+    ensures { λ r. ⌜ r ≡ squeezeDef (valueOf w) sticky ⌝ }
+{
     let n = excess(wide::digits(w), 62);
     let q = wide::shr(w, n);
-    Scaled { digits: q.low * 2 + bit(either(sticky, wide::lost(w, n))), places: n }
+    let rest = either(sticky, wide::lost(w, n));
+    Scaled {
+        digits: q.low * 2 + bit(rest),
+        places: n,
+    }
 }
 
 pub fn fma_f64(x: f64, y: f64, z: f64) -> f64
@@ -91,24 +140,25 @@ pub fn fma_f64(x: f64, y: f64, z: f64) -> f64
     if z == 0.0 {
         return x * y;
     }
-    let s = fused(x, y, z);
-    let v = squeeze(s.whole, s.sticky);
+    let s = fused(measure(x), measure(y), measure(z));
+    let whole = s.whole;
+    let v = squeeze(whole, s.sticky);
     place_f64(s.negative, v.digits, s.places + v.places)
 }
 
 pub fn fma_f32(x: f32, y: f32, z: f32) -> f32
     ensures { λ r. ⌜ r ≡ fmaDef binary32 x y z ⌝ }
 {
-    let u = std::num::f32_to_f64_with_nan(x);
-    let v = std::num::f32_to_f64_with_nan(y);
-    let w = std::num::f32_to_f64_with_nan(z);
-    if !is_finite(u) {
+    let a = std::num::f32_to_f64_with_nan(x);
+    let b = std::num::f32_to_f64_with_nan(y);
+    let c = std::num::f32_to_f64_with_nan(z);
+    if !is_finite(a) {
         return x * y + z;
     }
-    if !is_finite(v) {
+    if !is_finite(b) {
         return x * y + z;
     }
-    if !is_finite(w) {
+    if !is_finite(c) {
         return z;
     }
     if x == 0.0 {
@@ -120,7 +170,8 @@ pub fn fma_f32(x: f32, y: f32, z: f32) -> f32
     if z == 0.0 {
         return x * y;
     }
-    let s = fused(u, v, w);
-    let q = squeeze(s.whole, s.sticky);
-    place_f32(s.negative, q.digits, s.places + q.places)
+    let s = fused(measure(a), measure(b), measure(c));
+    let whole = s.whole;
+    let v = squeeze(whole, s.sticky);
+    place_f32(s.negative, v.digits, s.places + v.places)
 }

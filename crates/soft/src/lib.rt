@@ -7,5 +7,6 @@ pub mod fma;
 pub mod narrow;
 pub mod pack;
 pub mod round;
+mod flags;
 mod place;
 mod units;

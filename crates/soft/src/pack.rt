@@ -1,6 +1,5 @@
 // A float put together: the nearest to ±(q + a little where `sticky` is set) * 2^e.
 ghost use mathlib.Core.Path.{_≡_};
-ghost use mathlib.Core.Bool.{cond, _||_};
 ghost use Prim.Native.Nat.{_+_, _*_, _^_, _<_};
 ghost use lib.Ieee.{binary32, binary64, up, down};
 ghost use lib.Dec.{T};
@@ -8,6 +7,8 @@ ghost use lib.IntN.{negsuc};
 ghost use lib.Signed.{leZ};
 ghost use Rattle.soft.specs.Pack.{packDef};
 ghost use Rattle.soft.specs.Steps.{foldDef};
+use crate::flags::bit;
+use crate::flags::either;
 use crate::place::place_f32;
 use crate::place::place_f64;
 
@@ -15,18 +16,6 @@ use crate::place::place_f64;
 pub struct Scaled {
     pub digits: u64,
     pub places: u64,
-}
-
-pub fn bit(b: bool) -> u64
-    ensures { λ r. ⌜ r ≡ cond b 1 0 ⌝ }
-{
-    if b { 1 } else { 0 }
-}
-
-pub fn either(a: bool, b: bool) -> bool
-    ensures { λ r. ⌜ r ≡ (a || b) ⌝ }
-{
-    if a { true } else { b }
 }
 
 // 2q and the sticky bit, in halves; the two last digits of a q of 63 or 64 digits join that bit.

@@ -45,11 +45,11 @@ eight : (n : ℕ) → 2 ^ (n + 3) ≡ 8 * 2 ^ n
 eight n = pow-add 2 n 3 ∙ mul-comm (2 ^ n) 8
 
 -- with i of a half below q, not all of it zero
-above : (f : Format) (q i n : ℕ) → 2 ^ 62 ≤ q → q / 4 * 8 < q * 2 + i → q * 2 + i < (q / 4 + 1) * 8 → Cut f ((q * 2 + i) * 2 ^ n) (q / 4) (n + 3) true
-above f q i n big l g = (
+above : (q i n : ℕ) → 2 ^ 62 ≤ q → q / 4 * 8 < q * 2 + i → q * 2 + i < (q / 4 + 1) * 8 → Cut (2 ^ 60) ((q * 2 + i) * 2 ^ n) (q / 4) (n + 3) true
+above q i n big l g = (
   lt-of-le-of-lt (le-of-eq (up (q / 4))) (mul-lt-mul-of-pos-right l (pow-pos n)),
   lt-of-lt-of-le (mul-lt-mul-of-pos-right g (pow-pos n)) (le-of-eq (sym (up (q / 4 + 1)))),
-  le-trans (keeps f) (quarter q big),
+  quarter q big,
 )
   where
     up : (w : ℕ) → w * 2 ^ (n + 3) ≡ w * 8 * 2 ^ n
@@ -64,10 +64,10 @@ low-digits q n = let h : 0 < q % 4 = pos-of (q % 4) n in omega arith
     pos-of zero n = absurd (n refl)
     pos-of (suc r) n = omega arith
 
-join-bit : (f : Format) (q n : ℕ) (t b : Bool) → 2 ^ 62 ≤ q → (T b → q % 4 ≡ 0) → (T (not b) → q % 4 ≡ 0 → ⊥) → Cut f ((q * 2 + cond t 1 0) * 2 ^ n) (q / 4) (n + 3) (t || not b)
-join-bit f q n true b big y z = above f q 1 n big (omega arith) (omega arith)
-join-bit f q n false false big y z = above f q 0 n big (low-digits q (z tt)) (omega arith)
-join-bit f q n false true big y z = ap (λ (x : ℕ). x * 2 ^ n) (whole q (y tt)) ∙ mul-assoc (q / 4) 8 (2 ^ n) ∙ ap (λ (x : ℕ). q / 4 * x) (sym (eight n))
+join-bit : (q n : ℕ) (t b : Bool) → 2 ^ 62 ≤ q → (T b → q % 4 ≡ 0) → (T (not b) → q % 4 ≡ 0 → ⊥) → Cut (2 ^ 60) ((q * 2 + cond t 1 0) * 2 ^ n) (q / 4) (n + 3) (t || not b)
+join-bit q n true b big y z = above q 1 n big (omega arith) (omega arith)
+join-bit q n false false big y z = above q 0 n big (low-digits q (z tt)) (omega arith)
+join-bit q n false true big y z = ap (λ (x : ℕ). x * 2 ^ n) (whole q (y tt)) ∙ mul-assoc (q / 4) 8 (2 ^ n) ∙ ap (λ (x : ℕ). q / 4 * x) (sym (eight n))
   where
     whole : (q : ℕ) → q % 4 ≡ 0 → q * 2 + 0 ≡ q / 4 * 8
     whole q e = omega arith
@@ -88,7 +88,7 @@ folded f s q n t = go (ltb q (2 ^ 62)) (nltb→le q (2 ^ 62))
     b = t || not (eqb (q % 4) 0)
     long : 2 ^ 62 ≤ q → round f s ((q * 2 + cond t 1 0) * 2 ^ n) (2 ^ 2255) ≡ round f s ((q / 4 * 2 + cond b 1 0) * 2 ^ (n + 2)) (2 ^ 2255)
     long big =
-        cut-rounds f s ((q * 2 + cond t 1 0) * 2 ^ n) (q / 4) (n + 3) 2255 b (join-bit f q n t (eqb (q % 4) 0) big (eqb→eq (q % 4) 0) (not-eqb (q % 4)))
+        cut-rounds f s (2 ^ 60) ((q * 2 + cond t 1 0) * 2 ^ n) (q / 4) (n + 3) 2255 b (keeps f) (join-bit q n t (eqb (q % 4) 0) big (eqb→eq (q % 4) 0) (not-eqb (q % 4)))
         ∙ ap (λ (x : ℕ). round f s ((q / 4 * 2 + x) * 2 ^ (n + 3)) (2 ^ 2256)) (bit-is b)
         ∙ halve (q / 4 * 2 + cond b 1 0)
       where

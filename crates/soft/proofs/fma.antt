@@ -1,0 +1,4 @@
+-- What the proofs of `fma` share.
+mod Align
+mod Exactly
+mod Special

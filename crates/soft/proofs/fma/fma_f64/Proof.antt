@@ -1,0 +1,83 @@
+use borrow.Author.Needs.{needs}
+use Rattle.soft.proofs.fma.fma_f64.Statement.{statement}
+use Rattle.soft.proofs.fma.fma_f64.Tie as tie
+use Rattle.soft.proofs.fma.fma_f64.Reads as reads
+use Rattle.soft.proofs.fma.fma_f64.Lts as lts
+use Rattle.soft.proofs.fma.fused.Reads as fused-reads
+use Rattle.soft.proofs.fma.squeeze.Reads as squeeze-reads
+use Rattle.soft.proofs.place.place_f64.Reads as place-f64-reads
+use Rattle.soft.proofs.units.is_finite.Reads as is-finite-reads
+use Rattle.soft.proofs.units.measure.Reads as measure-reads
+
+is-finite-requires : tie.Need-is-finite-requires
+is-finite-requires c κs = search needs
+
+returns : tie.Need-returns
+returns c = ?
+
+is-finite-requires-2 : tie.Need-is-finite-requires-2
+is-finite-requires-2 c κs = search needs
+
+returns-2 : tie.Need-returns-2
+returns-2 c = ?
+
+is-finite-requires-3 : tie.Need-is-finite-requires-3
+is-finite-requires-3 c κs = search needs
+
+returns-3 : tie.Need-returns-3
+returns-3 c = ?
+
+returns-4 : tie.Need-returns-4
+returns-4 c = ?
+
+returns-5 : tie.Need-returns-5
+returns-5 c = ?
+
+returns-6 : tie.Need-returns-6
+returns-6 c = ?
+
+measure-requires : tie.Need-measure-requires
+measure-requires c κs = ?
+
+measure-requires-2 : tie.Need-measure-requires-2
+measure-requires-2 c κs = ?
+
+measure-requires-3 : tie.Need-measure-requires-3
+measure-requires-3 c κs = ?
+
+fused-requires : tie.Need-fused-requires
+fused-requires c κs = ?
+
+squeeze-requires : tie.Need-squeeze-requires
+squeeze-requires c κs = search needs
+
+add-place-f64 : tie.Need-add-place-f64
+add-place-f64 c = ?
+
+place-f64-requires : tie.Need-place-f64-requires
+place-f64-requires c κs = ?
+
+returns-7 : tie.Need-returns-7
+returns-7 c = ?
+
+pub fma-f64-spec : {M : Type 1} → statement M
+fma-f64-spec =
+    tie.close
+    (tie.spec
+    is-finite-requires
+    returns
+    is-finite-requires-2
+    returns-2
+    is-finite-requires-3
+    returns-3
+    returns-4
+    returns-5
+    returns-6
+    measure-requires
+    measure-requires-2
+    measure-requires-3
+    fused-requires
+    squeeze-requires
+    add-place-f64
+    place-f64-requires
+    returns-7)

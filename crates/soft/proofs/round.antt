@@ -1,0 +1,2 @@
+-- What the proofs of `round` share.
+mod Half
