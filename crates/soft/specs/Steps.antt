@@ -45,3 +45,4 @@ pub record Merged (s : Bool) (a : ℕ) (t : Bool) (b : ℕ) (r : Sum) : Type 0 w
   pub sign : r .negative ≡ sumSign s a t b
   pub cut : Cut (2 ^ 64) (sumSize s a t b) (valueOf (r .whole)) (r .places) (r .sticky)
   pub near : r .places < 2 ^ 13
+  pub short : valueOf (r .whole) < 2 ^ 128

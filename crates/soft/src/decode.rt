@@ -83,7 +83,12 @@ pub fn decode_f64(x: f64) -> Parts
     if x == f64::from_bits(0xfff0_0000_0000_0000) {
         return endless(Class::Infinite, true);
     }
-    finite_parts(f64::to_bits(x), 0x8000_0000_0000_0000, 0x10_0000_0000_0000, 1074)
+    finite_parts(
+        f64::to_bits(x),
+        0x8000_0000_0000_0000,
+        0x10_0000_0000_0000,
+        1074,
+    )
 }
 
 pub fn decode_f32(x: f32) -> Parts

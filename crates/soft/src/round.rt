@@ -44,11 +44,11 @@ pub fn round_f32(x: f32) -> f32
         let u = measure(w);
         let places = u.places;
         if places < 1045 {
-            let r = half_away(u.digits, places) as f32;
+            let t = half_away(u.digits, places) as f32;
             if u.negative {
-                return -r;
+                return -t;
             }
-            return r;
+            return t;
         }
     }
     x

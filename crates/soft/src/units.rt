@@ -23,9 +23,17 @@ pub fn split(b: u64, top: u64, hid: u64) -> Units
     let field = b % top / hid;
     let t = b % hid;
     if field == 0 {
-        return Units { negative, digits: t, places: 0 };
+        return Units {
+            negative,
+            digits: t,
+            places: 0,
+        };
     }
-    Units { negative, digits: hid + t, places: field - 1 }
+    Units {
+        negative,
+        digits: hid + t,
+        places: field - 1,
+    }
 }
 
 // The finite double x.

@@ -267,11 +267,11 @@ module _ (v w d e : ℕ) (v-lo : 2 ^ 104 ≤ v) (v-hi : v < 2 ^ 106) (w-hi : w <
       cap : (e r : ℕ) → e - r ≤ e
       cap e r = omega arith
 
-  merged : (i t u : Bool) (n : ℕ) → t ≡ u → valueOf x ≡ n
+  merged : (i t u : Bool) (n o : ℕ) → t ≡ u → valueOf x ≡ n → valueOf x ≡ o % 2 ^ 128
       → (i ≡ sumSign j (v * 2 ^ r * 2 ^ (e - r)) k (w / 2 ^ (d - r) * 2 ^ (e - r) + w % 2 ^ (d - r) * 2 ^ (e - d)))
       × Cut (2 ^ 64) (sumSize j (v * 2 ^ r * 2 ^ (e - r)) k (w / 2 ^ (d - r) * 2 ^ (e - r) + w % 2 ^ (d - r) * 2 ^ (e - d))) n (e - r) u
       → Merged j (v * 2 ^ e) k (w * 2 ^ (e - d)) (answer i t r)
-  merged i t u n p q h =
+  merged i t u n o p q l h =
       let a = big-is v w d e v-lo v-hi w-hi de in
       let c = small-is v w d e v-lo v-hi w-hi de in
       record {
@@ -279,7 +279,8 @@ module _ (v w d e : ℕ) (v-lo : 2 ^ 104 ≤ v) (v-hi : v < 2 ^ 106) (w-hi : w <
         cut = subst (λ (f : ℕ). Cut (2 ^ 64) f (valueOf x) (e - r) t) (ap₂ (λ (f g : ℕ). sumSize j f k g) (sym a) (sym c))
           (subst (λ (f : ℕ). Cut (2 ^ 64) (sumSize j (v * 2 ^ r * 2 ^ (e - r)) k (w / 2 ^ (d - r) * 2 ^ (e - r) + w % 2 ^ (d - r) * 2 ^ (e - d))) f (e - r) t) (sym q)
           (subst (Cut (2 ^ 64) (sumSize j (v * 2 ^ r * 2 ^ (e - r)) k (w / 2 ^ (d - r) * 2 ^ (e - r) + w % 2 ^ (d - r) * 2 ^ (e - d))) n (e - r)) (sym p) (h .1)));
-        near = near
+        near = near;
+        short = subst (λ (f : ℕ). f < 2 ^ 128) (sym l) (mod-lt o (pow-pos 128))
       }
 
   big : Aligned r → valueOf b ≡ v * 2 ^ r
@@ -290,8 +291,8 @@ module _ (v w d e : ℕ) (v-lo : 2 ^ 104 ≤ v) (v-hi : v < 2 ^ 106) (w-hi : w <
 
   at-like : (t : Bool) → Bool·beq j k ≡ true → Aligned r → t ≡ not (eqb (w % 2 ^ (d - r)) 0) → valueOf x ≡ (valueOf b + valueOf s) % 2 ^ 128 → Merged j (v * 2 ^ e) k (w * 2 ^ (e - d)) (answer j t r)
   at-like t q h p g =
-      merged j t (not (eqb (w % 2 ^ (d - r)) 0)) (v * 2 ^ r + w / 2 ^ (d - r)) p
-      (g ∙ ap₂ (λ (m n : ℕ). (m + n) % 2 ^ 128) (big h) (h .1) ∙ sum-within (2 ^ 128) (v * 2 ^ r) (w / 2 ^ (d - r)) (lt-of-lt-of-le within (lit≤ tt)))
+      merged j t (not (eqb (w % 2 ^ (d - r)) 0)) (v * 2 ^ r + w / 2 ^ (d - r)) (valueOf b + valueOf s) p
+      (g ∙ ap₂ (λ (m n : ℕ). (m + n) % 2 ^ 128) (big h) (h .1) ∙ sum-within (2 ^ 128) (v * 2 ^ r) (w / 2 ^ (d - r)) (lt-of-lt-of-le within (lit≤ tt))) g
       (like (2 ^ (e - r)) (e - r) (v * 2 ^ r) (w / 2 ^ (d - r)) (w % 2 ^ (d - r) * 2 ^ (e - d)) (eqb (w % 2 ^ (d - r)) 0) refl (rest-lt v w d e v-lo v-hi w-hi de) (quiet v w d e v-lo v-hi w-hi de) (loud v w d e v-lo v-hi w-hi de) j k q)
 
   at-larger : (t : Bool) (c f : Wide) (o : ℕ) → Bool·beq j k ≡ false → Aligned r → t ≡ not (eqb (w % 2 ^ (d - r)) 0) → ltb (valueOf s) (valueOf b) ≡ true → o ≡ cond t 1 0
@@ -305,7 +306,7 @@ module _ (v w d e : ℕ) (v-lo : 2 ^ 104 ≤ v) (v-hi : v < 2 ^ 106) (w-hi : w <
       let cv : valueOf c ≡ cond (not (eqb (w % 2 ^ (d - r)) 0)) 1 0 = oc ∙ ob ∙ ap (λ (z : Bool). cond z 1 0) p in
       let xv : valueOf x ≡ B - S - cond (not (eqb (w % 2 ^ (d - r)) 0)) 1 0 = i ∙ ap₂ (λ (m n : ℕ). (m + (2 ^ 128 - n)) % 2 ^ 128) fv cv
       ∙ difference-within (2 ^ 128) (B - S) (cond (not (eqb (w % 2 ^ (d - r)) 0)) 1 0) (one (not (eqb (w % 2 ^ (d - r)) 0)) B S less) (lt-of-le-of-lt (cap B S) B-lt) in
-      merged j t (not (eqb (w % 2 ^ (d - r)) 0)) (B - S - cond (not (eqb (w % 2 ^ (d - r)) 0)) 1 0) p xv
+      merged j t (not (eqb (w % 2 ^ (d - r)) 0)) (B - S - cond (not (eqb (w % 2 ^ (d - r)) 0)) 1 0) (valueOf f + (2 ^ 128 - valueOf c)) p xv i
       (larger (2 ^ (e - r)) (e - r) B S (w % 2 ^ (d - r) * 2 ^ (e - d)) (eqb (w % 2 ^ (d - r)) 0) refl (rest-lt v w d e v-lo v-hi w-hi de) (quiet v w d e v-lo v-hi w-hi de) (loud v w d e v-lo v-hi w-hi de) j k n less)
     where
       one : (t : Bool) (B S : ℕ) → S < B → cond t 1 0 ≤ B - S
@@ -322,8 +323,8 @@ module _ (v w d e : ℕ) (v-lo : 2 ^ 104 ≤ v) (v-hi : v < 2 ^ 106) (w-hi : w <
       let le : B ≤ S = ltb-false S B (ap₂ ltb (sym (h .1)) (sym (big h)) ∙ l) in
       let S-lt : S < 2 ^ 128 = lt-of-lt-of-le (small-lt v w d e v-lo v-hi w-hi de) (lit≤ tt) in
       let z = smaller (2 ^ (e - r)) (e - r) B S (w % 2 ^ (d - r) * 2 ^ (e - d)) (eqb (w % 2 ^ (d - r)) 0) refl (rest-lt v w d e v-lo v-hi w-hi de) (quiet v w d e v-lo v-hi w-hi de) (loud v w d e v-lo v-hi w-hi de) j k n le in
-      merged i false false (S - B) refl
-      (g ∙ ap₂ (λ (f g : ℕ). (f + (2 ^ 128 - g)) % 2 ^ 128) (h .1) (big h) ∙ difference-within (2 ^ 128) S B le S-lt)
+      merged i false false (S - B) (valueOf s + (2 ^ 128 - valueOf b)) refl
+      (g ∙ ap₂ (λ (f g : ℕ). (f + (2 ^ 128 - g)) % 2 ^ 128) (h .1) (big h) ∙ difference-within (2 ^ 128) S B le S-lt) g
       (q ∙ ap (λ (f : Bool). k && f) (p ∙ ap₂ ltb (big h) (h .1)) ∙ z .0, z .1)
 
   -- at whatever equals it

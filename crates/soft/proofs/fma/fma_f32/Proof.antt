@@ -1,14 +1,20 @@
+-- `soft::fma::fma_f32` meets its contract: the special operands by the machine's own operations, the rest by one rounding of the exact sum. Assumes nothing.
+use Prim.Native.Nat.{ℕ, _+_, _*_, _^_, _≤_, _<_}
+use mathlib.Core.Path.{_≡_, refl, sym, ap, _∙_, subst}
+use mathlib.Core.Bool.{Bool, true, false, not}
+use native.Mathlib.Omega.{arith}
+use lib.Dec.{T}
+use lib.Ieee.{Float, binary32, binary64, fits, eq, ofBits}
+use lib.Ieee.Fits.{fits-widens}
+use lib.Ieee.Scale.{finite}
 use borrow.Author.Needs.{needs}
+use Rattle.wide.specs.Value.{valueOf}
+use Rattle.soft.specs.Units.{unitsDef}
+use Rattle.soft.proofs.units.Value.{holds}
+use Rattle.soft.proofs.fma.Whole.{yes, no, Operand, operand-ready, fused-rounds, digits-fit, places-near}
+use Rattle.soft.proofs.fma.Special.{endless-left, endless-right, endless-third, zero-left, zero-right, zero-third}
 use Rattle.soft.proofs.fma.fma_f32.Statement.{statement}
 use Rattle.soft.proofs.fma.fma_f32.Tie as tie
-use Rattle.soft.proofs.fma.fma_f32.Reads as reads
-use Rattle.soft.proofs.fma.fma_f32.Lts as lts
-use Rattle.soft.proofs.fma.fused.Reads as fused-reads
-use Rattle.soft.proofs.fma.squeeze.Reads as squeeze-reads
-use Rattle.soft.proofs.place.place_f32.Reads as place-f32-reads
-use Rattle.soft.proofs.units.is_finite.Reads as is-finite-reads
-use Rattle.soft.proofs.units.measure.Reads as measure-reads
-use Rattle.std.proofs.num.f32_to_f64_with_nan.Reads as f32-to-f64-with-nan-reads
 
 f32-to-f64-with-nan-requires : tie.Need-f32-to-f64-with-nan-requires
 f32-to-f64-with-nan-requires c κs = search needs
@@ -23,52 +29,73 @@ is-finite-requires : tie.Need-is-finite-requires
 is-finite-requires c κs = search needs
 
 returns : tie.Need-returns
-returns c = ?
+returns c = endless-left binary32 (c .before .before .before .before .before .args .x) (c .before .before .before .before .before .args .y) (c .before .before .before .before .before .args .z) (no (c .before .before .before .before .before .args .x) (c .before .is-finite .result) (c .before .is-finite .ensures ∙ ap finite (c .before .before .before .before .f32-to-f64-with-nan .ensures)) (c .if1 .taken))
 
 is-finite-requires-2 : tie.Need-is-finite-requires-2
 is-finite-requires-2 c κs = search needs
 
 returns-2 : tie.Need-returns-2
-returns-2 c = ?
+returns-2 c = endless-right binary32 (c .before .before .before .before .before .before .before .args .x) (c .before .before .before .before .before .before .before .args .y) (c .before .before .before .before .before .before .before .args .z) (yes (c .before .before .before .before .before .before .before .args .x) (c .before .before .before .is-finite .result) (c .before .before .before .is-finite .ensures ∙ ap finite (c .before .before .before .before .before .before .f32-to-f64-with-nan .ensures)) (c .before .before .if1 .left)) (no (c .before .before .before .before .before .before .before .args .y) (c .before .is-finite2 .result) (c .before .is-finite2 .ensures ∙ ap finite (c .before .before .before .before .before .f32-to-f64-with-nan2 .ensures)) (c .if2 .taken))
 
 is-finite-requires-3 : tie.Need-is-finite-requires-3
 is-finite-requires-3 c κs = search needs
 
 returns-3 : tie.Need-returns-3
-returns-3 c = ?
+returns-3 c = endless-third binary32 (c .before .before .before .before .before .before .before .before .before .args .x) (c .before .before .before .before .before .before .before .before .before .args .y) (c .before .before .before .before .before .before .before .before .before .args .z) (yes (c .before .before .before .before .before .before .before .before .before .args .x) (c .before .before .before .before .before .is-finite .result) (c .before .before .before .before .before .is-finite .ensures ∙ ap finite (c .before .before .before .before .before .before .before .before .f32-to-f64-with-nan .ensures)) (c .before .before .before .before .if1 .left)) (yes (c .before .before .before .before .before .before .before .before .before .args .y) (c .before .before .before .is-finite2 .result) (c .before .before .before .is-finite2 .ensures ∙ ap finite (c .before .before .before .before .before .before .before .f32-to-f64-with-nan2 .ensures)) (c .before .before .if2 .left)) (no (c .before .before .before .before .before .before .before .before .before .args .z) (c .before .is-finite3 .result) (c .before .is-finite3 .ensures ∙ ap finite (c .before .before .before .before .before .before .f32-to-f64-with-nan3 .ensures)) (c .if3 .taken))
 
 returns-4 : tie.Need-returns-4
-returns-4 c = ?
+unfolding ofBits
+returns-4 c = zero-left binary32 (c .before .before .before .before .before .before .before .before .before .before .args .x) (c .before .before .before .before .before .before .before .before .before .before .args .y) (c .before .before .before .before .before .before .before .before .before .before .args .z) (yes (c .before .before .before .before .before .before .before .before .before .before .args .x) (c .before .before .before .before .before .before .is-finite .result) (c .before .before .before .before .before .before .is-finite .ensures ∙ ap finite (c .before .before .before .before .before .before .before .before .before .f32-to-f64-with-nan .ensures)) (c .before .before .before .before .before .if1 .left)) (yes (c .before .before .before .before .before .before .before .before .before .before .args .y) (c .before .before .before .before .is-finite2 .result) (c .before .before .before .before .is-finite2 .ensures ∙ ap finite (c .before .before .before .before .before .before .before .before .f32-to-f64-with-nan2 .ensures)) (c .before .before .before .if2 .left)) (yes (c .before .before .before .before .before .before .before .before .before .before .args .z) (c .before .before .is-finite3 .result) (c .before .before .is-finite3 .ensures ∙ ap finite (c .before .before .before .before .before .before .before .f32-to-f64-with-nan3 .ensures)) (c .before .if3 .left)) (c .if4 .taken)
 
 returns-5 : tie.Need-returns-5
-returns-5 c = ?
+unfolding ofBits
+returns-5 c = zero-right binary32 (c .before .before .before .before .before .before .before .before .before .before .before .args .x) (c .before .before .before .before .before .before .before .before .before .before .before .args .y) (c .before .before .before .before .before .before .before .before .before .before .before .args .z) (yes (c .before .before .before .before .before .before .before .before .before .before .before .args .x) (c .before .before .before .before .before .before .before .is-finite .result) (c .before .before .before .before .before .before .before .is-finite .ensures ∙ ap finite (c .before .before .before .before .before .before .before .before .before .before .f32-to-f64-with-nan .ensures)) (c .before .before .before .before .before .before .if1 .left)) (yes (c .before .before .before .before .before .before .before .before .before .before .before .args .y) (c .before .before .before .before .before .is-finite2 .result) (c .before .before .before .before .before .is-finite2 .ensures ∙ ap finite (c .before .before .before .before .before .before .before .before .before .f32-to-f64-with-nan2 .ensures)) (c .before .before .before .before .if2 .left)) (yes (c .before .before .before .before .before .before .before .before .before .before .before .args .z) (c .before .before .before .is-finite3 .result) (c .before .before .before .is-finite3 .ensures ∙ ap finite (c .before .before .before .before .before .before .before .before .f32-to-f64-with-nan3 .ensures)) (c .before .before .if3 .left)) (c .if5 .taken)
 
 returns-6 : tie.Need-returns-6
-returns-6 c = ?
+unfolding ofBits
+returns-6 c = zero-third binary32 (c .before .before .before .before .before .before .before .before .before .before .before .before .args .x) (c .before .before .before .before .before .before .before .before .before .before .before .before .args .y) (c .before .before .before .before .before .before .before .before .before .before .before .before .args .z) (yes (c .before .before .before .before .before .before .before .before .before .before .before .before .args .x) (c .before .before .before .before .before .before .before .before .is-finite .result) (c .before .before .before .before .before .before .before .before .is-finite .ensures ∙ ap finite (c .before .before .before .before .before .before .before .before .before .before .before .f32-to-f64-with-nan .ensures)) (c .before .before .before .before .before .before .before .if1 .left)) (yes (c .before .before .before .before .before .before .before .before .before .before .before .before .args .y) (c .before .before .before .before .before .before .is-finite2 .result) (c .before .before .before .before .before .before .is-finite2 .ensures ∙ ap finite (c .before .before .before .before .before .before .before .before .before .before .f32-to-f64-with-nan2 .ensures)) (c .before .before .before .before .before .if2 .left)) (yes (c .before .before .before .before .before .before .before .before .before .before .before .before .args .z) (c .before .before .before .before .is-finite3 .result) (c .before .before .before .before .is-finite3 .ensures ∙ ap finite (c .before .before .before .before .before .before .before .before .before .f32-to-f64-with-nan3 .ensures)) (c .before .before .before .if3 .left)) (c .before .before .if4 .left) (c .before .if5 .left) (c .if6 .taken)
 
 measure-requires : tie.Need-measure-requires
-measure-requires c κs = ?
+measure-requires c κs = holds (yes (c .before .before .before .before .before .before .before .before .before .before .before .f32-to-f64-with-nan .result) (c .before .before .before .before .before .before .before .before .is-finite .result) (c .before .before .before .before .before .before .before .before .is-finite .ensures) (c .before .before .before .before .before .before .before .if1 .left))
 
 measure-requires-2 : tie.Need-measure-requires-2
-measure-requires-2 c κs = ?
+measure-requires-2 c κs = holds (yes (c .before .before .before .before .before .before .before .before .before .before .before .f32-to-f64-with-nan2 .result) (c .before .before .before .before .before .before .before .is-finite2 .result) (c .before .before .before .before .before .before .before .is-finite2 .ensures) (c .before .before .before .before .before .before .if2 .left))
 
 measure-requires-3 : tie.Need-measure-requires-3
-measure-requires-3 c κs = ?
+measure-requires-3 c κs = holds (yes (c .before .before .before .before .before .before .before .before .before .before .before .f32-to-f64-with-nan3 .result) (c .before .before .before .before .before .before .is-finite3 .result) (c .before .before .before .before .before .before .is-finite3 .ensures) (c .before .before .before .before .before .if3 .left))
 
 fused-requires : tie.Need-fused-requires
-fused-requires c κs = ?
+unfolding ofBits
+fused-requires c κs = 
+    (operand-ready (c .before .before .before .before .before .before .before .before .before .before .before .before .before .before .before .args .x) (c .before .before .measure .result) (record { held = fits-widens (c .before .before .before .before .before .before .before .before .before .before .before .before .before .before .before .args .x) (holds (c .before .before .before .before .before .before .before .before .before .before .before .before .before .before .before .good .0 .1)); finite-is = (yes (c .before .before .before .before .before .before .before .before .before .before .before .before .before .before .before .args .x) (c .before .before .before .before .before .before .before .before .before .before .before .is-finite .result) (c .before .before .before .before .before .before .before .before .before .before .before .is-finite .ensures ∙ ap finite (c .before .before .before .before .before .before .before .before .before .before .before .before .before .before .f32-to-f64-with-nan .ensures)) (c .before .before .before .before .before .before .before .before .before .before .if1 .left)); measure-is = c .before .before .measure .ensures ∙ ap (unitsDef binary64) (c .before .before .before .before .before .before .before .before .before .before .before .before .before .before .f32-to-f64-with-nan .ensures) }) (c .before .before .before .before .before .if4 .left),
+    operand-ready (c .before .before .before .before .before .before .before .before .before .before .before .before .before .before .before .args .y) (c .before .measure2 .result) (record { held = fits-widens (c .before .before .before .before .before .before .before .before .before .before .before .before .before .before .before .args .y) (holds (c .before .before .before .before .before .before .before .before .before .before .before .before .before .before .before .good .1 .0 .1)); finite-is = (yes (c .before .before .before .before .before .before .before .before .before .before .before .before .before .before .before .args .y) (c .before .before .before .before .before .before .before .before .before .is-finite2 .result) (c .before .before .before .before .before .before .before .before .before .is-finite2 .ensures ∙ ap finite (c .before .before .before .before .before .before .before .before .before .before .before .before .before .f32-to-f64-with-nan2 .ensures)) (c .before .before .before .before .before .before .before .before .if2 .left)); measure-is = c .before .measure2 .ensures ∙ ap (unitsDef binary64) (c .before .before .before .before .before .before .before .before .before .before .before .before .before .f32-to-f64-with-nan2 .ensures) }) (c .before .before .before .before .if5 .left),
+    operand-ready (c .before .before .before .before .before .before .before .before .before .before .before .before .before .before .before .args .z) (c .measure3 .result) (record { held = fits-widens (c .before .before .before .before .before .before .before .before .before .before .before .before .before .before .before .args .z) (holds (c .before .before .before .before .before .before .before .before .before .before .before .before .before .before .before .good .1 .1 .0 .1)); finite-is = (yes (c .before .before .before .before .before .before .before .before .before .before .before .before .before .before .before .args .z) (c .before .before .before .before .before .before .before .is-finite3 .result) (c .before .before .before .before .before .before .before .is-finite3 .ensures ∙ ap finite (c .before .before .before .before .before .before .before .before .before .before .before .before .f32-to-f64-with-nan3 .ensures)) (c .before .before .before .before .before .before .if3 .left)); measure-is = c .measure3 .ensures ∙ ap (unitsDef binary64) (c .before .before .before .before .before .before .before .before .before .before .before .before .f32-to-f64-with-nan3 .ensures) }) (c .before .before .before .if6 .left))
 
 squeeze-requires : tie.Need-squeeze-requires
 squeeze-requires c κs = search needs
 
 add-place-f32 : tie.Need-add-place-f32
-add-place-f32 c = ?
+add-place-f32 c = record { fits = wider _ (places-near (valueOf (c .before .before .before .before .fused .result .whole)) (c .before .before .before .before .fused .result .sticky) (c .before .before .squeeze .result) (c .before .before .before .before .fused .result .places) (c .before .before .before .before .fused .ensures .short) (c .before .before .squeeze .ensures) (c .before .before .before .before .fused .ensures .near)) }
+  where
+    wider : (p : ℕ) → p < 2 ^ 14 → p < 2 ^ 64
+    wider p h = omega arith
 
 place-f32-requires : tie.Need-place-f32-requires
-place-f32-requires c κs = ?
+place-f32-requires c κs = 
+    (digits-fit (valueOf (c .before .before .before .before .fused .result .whole)) (c .before .before .before .before .fused .result .sticky) (c .before .before .squeeze .result) (c .before .before .squeeze .ensures),
+    wider _ (places-near (valueOf (c .before .before .before .before .fused .result .whole)) (c .before .before .before .before .fused .result .sticky) (c .before .before .squeeze .result) (c .before .before .before .before .fused .result .places) (c .before .before .before .before .fused .ensures .short) (c .before .before .squeeze .ensures) (c .before .before .before .before .fused .ensures .near)))
+  where
+    wider : (p : ℕ) → p < 2 ^ 14 → p < 2 ^ 63 + 2 ^ 12
+    wider p h = omega arith
 
 returns-7 : tie.Need-returns-7
-returns-7 c = ?
+returns-7 c = 
+    c .place-f32 .ensures
+    ∙ fused-rounds binary32 (c .before .before .before .before .before .before .before .before .before .before .before .before .before .before .before .before .before .before .before .before .before .args .x) (c .before .before .before .before .before .before .before .before .before .before .before .before .before .before .before .before .before .before .before .before .before .args .y) (c .before .before .before .before .before .before .before .before .before .before .before .before .before .before .before .before .before .before .before .before .before .args .z) (c .before .before .before .before .before .before .before .before .measure .result) (c .before .before .before .before .before .before .before .measure2 .result) (c .before .before .before .before .before .before .measure3 .result)
+    (record { held = fits-widens (c .before .before .before .before .before .before .before .before .before .before .before .before .before .before .before .before .before .before .before .before .before .args .x) (holds (c .before .before .before .before .before .before .before .before .before .before .before .before .before .before .before .before .before .before .before .before .before .good .0 .1)); finite-is = (yes (c .before .before .before .before .before .before .before .before .before .before .before .before .before .before .before .before .before .before .before .before .before .args .x) (c .before .before .before .before .before .before .before .before .before .before .before .before .before .before .before .before .before .is-finite .result) (c .before .before .before .before .before .before .before .before .before .before .before .before .before .before .before .before .before .is-finite .ensures ∙ ap finite (c .before .before .before .before .before .before .before .before .before .before .before .before .before .before .before .before .before .before .before .before .f32-to-f64-with-nan .ensures)) (c .before .before .before .before .before .before .before .before .before .before .before .before .before .before .before .before .if1 .left)); measure-is = c .before .before .before .before .before .before .before .before .measure .ensures ∙ ap (unitsDef binary64) (c .before .before .before .before .before .before .before .before .before .before .before .before .before .before .before .before .before .before .before .before .f32-to-f64-with-nan .ensures) })
+    (record { held = fits-widens (c .before .before .before .before .before .before .before .before .before .before .before .before .before .before .before .before .before .before .before .before .before .args .y) (holds (c .before .before .before .before .before .before .before .before .before .before .before .before .before .before .before .before .before .before .before .before .before .good .1 .0 .1)); finite-is = (yes (c .before .before .before .before .before .before .before .before .before .before .before .before .before .before .before .before .before .before .before .before .before .args .y) (c .before .before .before .before .before .before .before .before .before .before .before .before .before .before .before .is-finite2 .result) (c .before .before .before .before .before .before .before .before .before .before .before .before .before .before .before .is-finite2 .ensures ∙ ap finite (c .before .before .before .before .before .before .before .before .before .before .before .before .before .before .before .before .before .before .before .f32-to-f64-with-nan2 .ensures)) (c .before .before .before .before .before .before .before .before .before .before .before .before .before .before .if2 .left)); measure-is = c .before .before .before .before .before .before .before .measure2 .ensures ∙ ap (unitsDef binary64) (c .before .before .before .before .before .before .before .before .before .before .before .before .before .before .before .before .before .before .before .f32-to-f64-with-nan2 .ensures) })
+    (record { held = fits-widens (c .before .before .before .before .before .before .before .before .before .before .before .before .before .before .before .before .before .before .before .before .before .args .z) (holds (c .before .before .before .before .before .before .before .before .before .before .before .before .before .before .before .before .before .before .before .before .before .good .1 .1 .0 .1)); finite-is = (yes (c .before .before .before .before .before .before .before .before .before .before .before .before .before .before .before .before .before .before .before .before .before .args .z) (c .before .before .before .before .before .before .before .before .before .before .before .before .before .is-finite3 .result) (c .before .before .before .before .before .before .before .before .before .before .before .before .before .is-finite3 .ensures ∙ ap finite (c .before .before .before .before .before .before .before .before .before .before .before .before .before .before .before .before .before .before .f32-to-f64-with-nan3 .ensures)) (c .before .before .before .before .before .before .before .before .before .before .before .before .if3 .left)); measure-is = c .before .before .before .before .before .before .measure3 .ensures ∙ ap (unitsDef binary64) (c .before .before .before .before .before .before .before .before .before .before .before .before .before .before .before .before .before .before .f32-to-f64-with-nan3 .ensures) })
+    (c .before .before .before .before .before .fused .result) (c .before .before .before .before .before .fused .ensures) (c .before .before .before .squeeze .result) (c .before .before .before .squeeze .ensures)
 
 pub fma-f32-spec : {M : Type 1} → statement M
 fma-f32-spec =

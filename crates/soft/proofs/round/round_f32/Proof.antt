@@ -13,8 +13,8 @@ use Rattle.soft.proofs.round.round_f32.Statement.{statement}
 use Rattle.soft.proofs.round.round_f32.Tie as tie
 
 -- below the place 1045 no more than 24 digits are left of the point
-room : (p : ℕ) → p < 1045 → 53 ≤ 24 + (1074 - p)
-room p h = omega arith
+room : (p : ℕ) {t : ℕ} → p < t → t ≤ 1045 → 53 ≤ 24 + (1074 - p)
+room p h k = omega arith
 
 f32-to-f64-with-nan-requires : tie.Need-f32-to-f64-with-nan-requires
 f32-to-f64-with-nan-requires c κs = search needs
@@ -34,8 +34,8 @@ half-away-requires c κs =
     let e = w .f32-to-f64-with-nan .ensures in
     (digits-small binary32 (s .args .x) (m .measure .result) (holds (s .good .0 .1)) (holds (ap finite (sym e) ∙ sym (g .before .is-finite .ensures) ∙ g .if1 .taken)) (rw e at (m .measure .ensures)), lt-of-lt-of-le (c .if2 .taken) (lit≤ tt))
 
-int-to-float-r : tie.Need-int-to-float-r
-int-to-float-r c =
+int-to-float-t : tie.Need-int-to-float-t
+int-to-float-t c =
     let r = c .before in
     let m = r .before .before in
     let g = m .before in
@@ -43,7 +43,7 @@ int-to-float-r c =
     let s = w .before in
     let e = w .f32-to-f64-with-nan .ensures in
     countable binary32 (s .args .x) (m .measure .result) (holds (s .good .0 .1)) (holds (ap finite (sym e) ∙ sym (g .before .is-finite .ensures) ∙ g .if1 .taken)) (rw e at (m .measure .ensures)) (r .half-away .result) (r .half-away .ensures)
-    (lt-of-lt-of-le (r .before .if2 .taken) (lit≤ tt)) (room (m .measure .result .places) (r .before .if2 .taken))
+    (lt-of-lt-of-le (r .before .if2 .taken) (lit≤ tt)) (room (m .measure .result .places) (r .before .if2 .taken) (lit≤ tt))
 
 returns : tie.Need-returns
 returns c =
@@ -82,4 +82,4 @@ returns-4 c =
 pub round-f32-spec : {M : Type 1} → statement M
 round-f32-spec =
     tie.close
-    (tie.spec f32-to-f64-with-nan-requires is-finite-requires measure-requires half-away-requires int-to-float-r returns returns-2 returns-3 returns-4)
+    (tie.spec f32-to-f64-with-nan-requires is-finite-requires measure-requires half-away-requires int-to-float-t returns returns-2 returns-3 returns-4)

@@ -1,7 +1,7 @@
 -- `round::round_f64` meets its contract: each return is one of the four of Half. Assumes nothing.
 use mathlib.Core.Path.{sym, _∙_}
 use Prim.Native.Nat.{_-_}
-use native.Mathlib.Nat.{le-add-right}
+use native.Mathlib.Nat.{le-add-right, lt-of-lt-of-le}
 use lib.Dec.{lit≤}
 use lib.Ieee.{binary64}
 use borrow.Author.Needs.{needs}
@@ -21,7 +21,7 @@ half-away-requires c κs =
     let m = c .before in
     let g = m .before in
     let s = g .before .before in
-    (digits-small binary64 (s .args .x) (m .measure .result) (holds (s .good .0 .1)) (holds (sym (g .before .is-finite .ensures) ∙ g .if1 .taken)) (m .measure .ensures), c .if2 .taken)
+    (digits-small binary64 (s .args .x) (m .measure .result) (holds (s .good .0 .1)) (holds (sym (g .before .is-finite .ensures) ∙ g .if1 .taken)) (m .measure .ensures), lt-of-lt-of-le (c .if2 .taken) (lit≤ tt))
 
 int-to-float-r : tie.Need-int-to-float-r
 int-to-float-r c =
@@ -29,7 +29,7 @@ int-to-float-r c =
     let m = r .before .before in
     let g = m .before in
     let s = g .before .before in
-    countable binary64 (s .args .x) (m .measure .result) (holds (s .good .0 .1)) (holds (sym (g .before .is-finite .ensures) ∙ g .if1 .taken)) (m .measure .ensures) (r .half-away .result) (r .half-away .ensures) (r .before .if2 .taken) (le-add-right 53 (1074 - m .measure .result .places))
+    countable binary64 (s .args .x) (m .measure .result) (holds (s .good .0 .1)) (holds (sym (g .before .is-finite .ensures) ∙ g .if1 .taken)) (m .measure .ensures) (r .half-away .result) (r .half-away .ensures) (lt-of-lt-of-le (r .before .if2 .taken) (lit≤ tt)) (le-add-right 53 (1074 - m .measure .result .places))
 
 returns : tie.Need-returns
 returns c =
