@@ -1,4 +1,5 @@
 -- Laws of rounding, each over the format: what the proofs of `soft` and of the crates above it cite.
+pub mod Basics
 pub mod Closest
 pub mod Pattern
 pub mod Place

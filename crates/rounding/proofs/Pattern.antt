@@ -164,6 +164,7 @@ round-pattern f s num den k q d c h = go (ltb (q * 2 ^ k) (2 ^ (low f + suc (ema
   where
     is : round f s num den ≡ units f s q k
     is = round-is f s num den ∙ ap (λ (j : ℕ). core f s (num * 2 ^ low f) den j) d ∙ ap (λ (x : ℕ). units f s x k) c
+
     go : (b : Bool) → (T b → q * 2 ^ k < 2 ^ (low f + suc (emax f))) → (T (not b) → (2 ^ (low f + suc (emax f)) ≤ q * 2 ^ k) × (units f s q k ≡ inf s))
         → ofBits f (cond s (top f) 0 + min (k * hid f + q) (ones f * hid f)) ≡ round f s num den
     go true l g =
@@ -183,8 +184,10 @@ round-not-nan f s a c = go (ltb (q * 2 ^ k) (2 ^ (low f + suc (emax f)))) q
   where
     k : ℕ
     k = size (a * 2 ^ low f / c) - prec f
+
     q : ℕ
     q = closest (a * 2 ^ low f) (c * 2 ^ k)
+
     go : (b : Bool) (n : ℕ) → T (not (isNan (cond b (odd (suc (prec f)) s n k (low f)) (inf s))))
     go true zero = tt
     go true (suc n) = tt

@@ -59,6 +59,7 @@ module _ (f : Format) (g t v x : ℕ) (r : Range f g t) (lo : 2 ^ 62 ≤ v) (hi 
     where
       up-to : size (v * 2 ^ x / 2 ^ g) ≤ prec f + (x - t)
       up-to = size-le (v * 2 ^ x / 2 ^ g) (prec f + (x - t)) at-most
+
       go : ((x - t) ≡ 0) ⊎ (0 < x - t) → size (v * 2 ^ x / 2 ^ g) - prec f ≡ x - t
       go (inl e) = none (size (v * 2 ^ x / 2 ^ g)) (prec f) (subst (λ (k : ℕ). size (v * 2 ^ x / 2 ^ g) ≤ prec f + k) e up-to) ∙ sym e
       go (inr h) = exactly (size (v * 2 ^ x / 2 ^ g)) (prec f) (x - t) (two f) up-to (pow-lt-back (prec f - 1 + (x - t)) (size (v * 2 ^ x / 2 ^ g)) (lt-of-le-of-lt (at-least h) (size-lt (v * 2 ^ x / 2 ^ g))))
@@ -89,9 +90,9 @@ module _ (f : Format) (g t v x : ℕ) (r : Range f g t) (lo : 2 ^ 62 ≤ v) (hi 
 
   kept : Kept f (closest v (2 ^ d)) (x - t)
   kept = elim (eq-or-lt-of-le q-le) [
-      | inl e ↦ inr e
-      | inr l ↦ inl (l, elim (eq-zero-or-pos (x - t)) [ inl z ↦ inl z | inr h ↦ inr (q-ge h) ])
-    ]
+    | inl e ↦ inr e
+    | inr l ↦ inl (l, elim (eq-zero-or-pos (x - t)) [ inl z ↦ inl z | inr h ↦ inr (q-ge h) ])
+  ]
 
   pub placed : (s : Bool) → ofBits f (cond s (top f) 0 + min ((x - t) * hid f + closest v (2 ^ d)) (ones f * hid f)) ≡ round f s (v * 2 ^ x) (2 ^ (low f + g))
   placed s = round-pattern f s (v * 2 ^ x) (2 ^ (low f + g)) (x - t) (closest v (2 ^ d)) drop-is kept-is kept

@@ -6,14 +6,15 @@ use mathlib.Core.Logic.{_⊎_, inl, inr}
 use Prim.Native.Nat.{ℕ, zero, suc, _+_, _-_, _*_, _/_, _%_, _^_, _≤_, _<_, compare, Ordering, Ordering·lt, Ordering·gt}
 use native.Mathlib.Nat.{add-zero, le-refl, le-trans, le-of-eq, le-of-lt, lt-of-lt-of-le, lt-of-le-of-lt, le-antisymm, le-of-suc-le-suc, lt-of-not-le, not-le-of-lt, lt-irrefl, mul-le-mul-left, mul-le-mul-right, mul-lt-mul-of-pos-right, lt-of-mul-lt-mul-right, mul-pos, mul-assoc, mul-comm, mul-left-comm, mul-one, one-mul, div-add-mod', mod-lt, div-lt-iff-lt-mul, le-div-iff-mul-le, add-sub-of-le, sub-add-cancel}
 use native.Mathlib.Omega.{arith}
-use lib.Dec.{T, ltb, leb, ltb→lt, nltb→le, leb→le, nleb→lt}
+use lib.Dec.{T, ltb, leb, ltb→lt, nltb→le, leb→le, nleb→lt, lit≤}
 use lib.Pow.{pow-pos, pow-add, pow-mono}
 use lib.Arith.{digits-div, digits-mod}
-use lib.Ieee.{Float, Format, prec, low, size, nearest, units, round}
+use lib.Ieee.{Float, Format, binary32, binary64, prec, low, size, nearest, units, round}
 use lib.Ieee.Digits.{size-lt, size-le, size-reaches}
 use lib.Ieee.Fits.{core, round-is}
 use lib.Ieee.Nearest.{closest}
 use lib.Ieee.Scale.{round-same}
+use Rattle.rounding.proofs.Basics.{pos-of}
 use Rattle.rounding.proofs.Closest.{cmp, is-lt, is-gt}
 
 -- ---- which way r and a bit of 2 h goes
@@ -86,8 +87,10 @@ gap-below w i j p h = go (leb j i) (leb→le j i) (nleb→lt j i)
       where
         three : (y : ℕ) → y * 3 ≡ 3 * y
         three y = omega arith
+
         more : (w : ℕ) → 0 < w → 3 ≤ w * 2 + 1
         more w p = omega arith
+
         clash : (a b m : ℕ) → a ≤ b → m < a * 2 → b * 3 ≤ m → ⊥
         clash a b m x y z = omega arith
 
@@ -102,6 +105,7 @@ gap-above w i j p h = go (leb j i) (leb→le j i) (nleb→lt j i)
       where
         odd : (w c : ℕ) → w < c → w * 2 + 1 < c * 2
         odd w c h = omega arith
+
         swap : (x y : ℕ) → x * 2 * y ≡ x * y * 2
         swap x y = omega arith
     go false l g = absurd (lt-irrefl (2 ^ i) (lt-of-le-of-lt (pow-mono (le-of-lt (g tt))) (lt-of-le-of-lt (le-trans (le-of-eq (sym (one-mul (2 ^ j)))) (mul-le-mul-right (2 ^ j) p)) h)))
@@ -218,8 +222,7 @@ module _ (f : Format) (s : Bool) (x w y u : ℕ) (lo : w * 2 ^ y < x) (hi : x < 
 
 -- ---- with the bit: x is w units of 2 ^ y, and a little more exactly where the bit is set
 abbrev pub bit : Bool → ℕ
-bit true = 1
-bit false = 0
+bit b = cond b 1 0
 
 -- and where it is, w is at least m
 abbrev pub Cut : (m x w y : ℕ) → Bool → Type 0
@@ -234,6 +237,11 @@ cut-rounds f s m x w y u false g e =
   where
     swap : (w y u : ℕ) → w * y * (u * 2) ≡ (w * 2 + 0) * y * u
     swap w y u = omega arith
+
+-- 60 digits are enough for either format
+pub keeps : (f : Format) → 2 ^ prec f ≤ 2 ^ 60
+keeps binary32 = lit≤ tt
+keeps binary64 = lit≤ tt
 
 -- ---- cut again, n digits higher: what is lost joins the bit
 module _ (x w y n : ℕ) where
@@ -262,11 +270,10 @@ module _ (x w y n : ℕ) where
       least a r w e = omega arith
 
   over : (w % 2 ^ n ≡ 0 → ⊥) → q * 2 ^ n < w
-  over h = more (q * 2 ^ n) (w % 2 ^ n) w whole h
+  over h = more (q * 2 ^ n) (w % 2 ^ n) w whole (pos-of (w % 2 ^ n) h)
     where
-      more : (a r w : ℕ) → a + r ≡ w → (r ≡ 0 → ⊥) → a < w
-      more a zero w e h = absurd (h refl)
-      more a (suc r) w e h = omega arith
+      more : (a r w : ℕ) → a + r ≡ w → 0 < r → a < w
+      more a r w e h = omega arith
 
   pub cut-again : (m k : ℕ) (b c : Bool) → Cut m x w y b → (T c → w % 2 ^ n ≡ 0) → (T (not c) → w % 2 ^ n ≡ 0 → ⊥) → (T (b || not c) → k ≤ q) → Cut k x q (y + n) (b || not c)
   cut-again m k true c h z l g = (from (h .0), below (h .1), g tt)

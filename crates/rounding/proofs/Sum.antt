@@ -53,9 +53,11 @@ module _ (c d : ℕ) (C : 0 < c) (D : 0 < d) where
       sign =
           ap (λ (x : Bool). cond (Bool·beq s t) s (cond x t (s && ltb b a))) (tests a b a' b' p q)
           ∙ ap (λ (x : Bool). cond (Bool·beq s t) s (cond (ltb a' b') t (s && x))) (tests b a b' a' q p)
+
       go : (x y : Bool) → cond x (a + b) (cond y (b - a) (a - b)) * d ≡ cond x (a' + b') (cond y (b' - a') (a' - b')) * c
       go true y = add-mul a b d ∙ ap (λ (z : ℕ). z + b * d) p ∙ ap (λ (z : ℕ). a' * c + z) q ∙ sym (add-mul a' b' c)
       go false true = sub-mul b a d ∙ ap (λ (z : ℕ). z - a * d) q ∙ ap (λ (z : ℕ). b' * c - z) p ∙ sym (sub-mul b' a' c)
       go false false = sub-mul a b d ∙ ap (λ (z : ℕ). z - b * d) p ∙ ap (λ (z : ℕ). a' * c - z) q ∙ sym (sub-mul a' b' c)
+
       size : sumSize s a t b * d ≡ sumSize s a' t b' * c
       size = ap (λ (x : Bool). cond (Bool·beq s t) (a + b) (cond x (b - a) (a - b)) * d) (tests a b a' b' p q) ∙ go (Bool·beq s t) (ltb a' b')

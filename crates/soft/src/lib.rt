@@ -3,10 +3,10 @@
 // fused multiply-add. Each contract equates the answer to a definition of specs/, and none asks
 // anything of its caller.
 pub mod decode;
+mod flags;
 pub mod fma;
 pub mod narrow;
 pub mod pack;
-pub mod round;
-mod flags;
 mod place;
+pub mod round;
 mod units;

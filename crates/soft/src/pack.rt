@@ -23,10 +23,16 @@ fn fold(q: u64, sticky: bool) -> Scaled
     ensures { λ r. ⌜ r ≡ foldDef q sticky ⌝ }
 {
     if q < 0x4000_0000_0000_0000 {
-        return Scaled { digits: q * 2 + bit(sticky), places: 0 };
+        return Scaled {
+            digits: q * 2 + bit(sticky),
+            places: 0,
+        };
     }
     let more = q % 4 != 0;
-    Scaled { digits: q / 4 * 2 + bit(either(sticky, more)), places: 2 }
+    Scaled {
+        digits: q / 4 * 2 + bit(either(sticky, more)),
+        places: 2,
+    }
 }
 
 // e + 2254: the exponent counted from 2^-2254.
@@ -56,6 +62,6 @@ pub fn pack_f32(negative: bool, q: u64, sticky: bool, e: i64) -> f32
     if e < -2254 {
         return place_f32(negative, 0, 0);
     }
-    let v = fold(q, sticky);
-    place_f32(negative, v.digits, lift(e) + v.places)
+    let w = fold(q, sticky);
+    place_f32(negative, w.digits, lift(e) + w.places)
 }

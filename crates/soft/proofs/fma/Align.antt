@@ -7,8 +7,9 @@ use Prim.Native.Nat.{ℕ, zero, suc, _+_, _-_, _*_, _/_, _%_, _^_, _≤_, _<_, m
 use native.Mathlib.Nat.{add-zero, zero-mul, le-antisymm, le-trans, le-of-eq, le-of-lt, lt-of-lt-of-le, lt-of-le-of-lt, lt-irrefl, mul-assoc, mul-comm, mul-le-mul-right, mul-le-mul-left, mul-lt-mul-of-pos-right, div-add-mod', mod-lt, mod-eq-of-lt, div-le-self, add-mod-right, add-mul, div-lt-iff-lt-mul, mul-one, one-mul, mod-one}
 use native.Mathlib.Omega.{arith}
 use borrow.Author.Tests.{lt-ltb, le-ltb, ltb-true, ltb-false}
-use lib.Dec.{T, T-not, ltb, ltb→lt, nltb→le, eqb, eqb→eq, lit≤}
+use lib.Dec.{T, ltb, ltb→lt, nltb→le, eqb, eqb→eq, lit≤}
 use lib.Pow.{pow-pos, pow-add, pow-mono, shl-lt, add-lt-pow}
+use Rattle.rounding.proofs.Basics.{pos-of, not-eqb}
 use Rattle.rounding.proofs.Sticky.{Cut}
 use Rattle.rounding.proofs.Sum.{sumSign, sumSize}
 use Rattle.wide.specs.declared.Wide.{Wide}
@@ -29,6 +30,7 @@ difference-within m a b h g = ap (λ (x : ℕ). x % m) (turn m a b h g) ∙ add-
   where
     turn : (m a b : ℕ) → b ≤ a → a < m → a + (m - b) ≡ a - b + m
     turn m a b h g = omega arith
+
     less : (a b m : ℕ) → a < m → a - b < m
     less a b m g = omega arith
 
@@ -42,10 +44,6 @@ and-false false = refl
 
 -- ---- in units p: b whole units, and s units and r below, with a bit c that says whether r is 0
 module _ (p y b s r : ℕ) (c : Bool) (unit : p ≡ 2 ^ y) (small : r < p) (none : T c → r ≡ 0) (some : T (not c) → (r ≡ 0 → ⊥) × (2 ^ 124 ≤ b) × (s < 2 ^ 105)) where
-  positive : (r : ℕ) → (r ≡ 0 → ⊥) → 0 < r
-  positive zero n = absurd (n refl)
-  positive (suc r) n = omega arith
-
   -- the sum
   pub added : Cut (2 ^ 64) (b * p + (s * p + r)) (b + s) y (not c)
   added = go c none some
@@ -57,7 +55,7 @@ module _ (p y b s r : ℕ) (c : Bool) (unit : p ≡ 2 ^ y) (small : r < p) (none
           whole r e = omega arith
       go false z n =
           let h = n tt in
-          let g = positive r (h .0) in
+          let g = pos-of r (h .0) in
           let k : 2 ^ 124 ≤ b = h .1 in
           (subst (λ (x : ℕ). (b + s) * x < b * p + (s * p + r)) unit (omega arith), subst (λ (x : ℕ). b * p + (s * p + r) < (b + s + 1) * x) unit (omega arith), omega arith)
 
@@ -77,13 +75,15 @@ module _ (p y b s r : ℕ) (c : Bool) (unit : p ≡ 2 ^ y) (small : r < p) (none
             where
               less : (s u p : ℕ) → (s + u) * p - (s * p + 0) ≡ u * p
               less s u p = omega arith
+
               back : (s u : ℕ) → s + u - s - 0 ≡ u
               back s u = omega arith
+
       go : (c : Bool) → (T c → r ≡ 0) → (T (not c) → (r ≡ 0 → ⊥) × (2 ^ 124 ≤ b) × (s < 2 ^ 105)) → Cut (2 ^ 64) (b * p - (s * p + r)) (b - s - cond (not c) 1 0) y (not c)
       go true z n = step (b - s - 1) (omega arith) (z tt) ∙ ap (λ (x : ℕ). (b - s - 0) * x) unit
       go false z n =
           let k = n tt in
-          let g = positive r (k .0) in
+          let g = pos-of r (k .0) in
           let l : 2 ^ 124 ≤ b = k .1 in
           let m : s < 2 ^ 105 = k .2 in
           let f = inside (b - s - 1) b s r p (omega arith) g small in
@@ -130,9 +130,9 @@ module _ (p y b s r : ℕ) (c : Bool) (unit : p ≡ 2 ^ y) (small : r < p) (none
       let f : ltb (b * p) (s * p + r) ≡ false = le-ltb (b * p) (s * p + r) (le-of-lt (above h)) in
       let g : ltb (s * p + r) (b * p) ≡ true = lt-ltb (s * p + r) (b * p) (above h) in (
         sym (ap (λ (z : Bool). cond z j (cond (ltb (b * p) (s * p + r)) k (j && ltb (s * p + r) (b * p)))) n
-        ∙ ap (λ (z : Bool). cond z k (j && ltb (s * p + r) (b * p))) f ∙ ap (λ (z : Bool). j && z) g ∙ and-true j),
+            ∙ ap (λ (z : Bool). cond z k (j && ltb (s * p + r) (b * p))) f ∙ ap (λ (z : Bool). j && z) g ∙ and-true j),
         subst (λ (z : Bool). Cut (2 ^ 64) (cond z (b * p + (s * p + r)) (cond (ltb (b * p) (s * p + r)) (s * p + r - b * p) (b * p - (s * p + r)))) (b - s - cond (not c) 1 0) y (not c)) (sym n)
-        (subst (λ (z : Bool). Cut (2 ^ 64) (cond z (s * p + r - b * p) (b * p - (s * p + r))) (b - s - cond (not c) 1 0) y (not c)) (sym f) (taken h)),
+            (subst (λ (z : Bool). Cut (2 ^ 64) (cond z (s * p + r - b * p) (b * p - (s * p + r))) (b - s - cond (not c) 1 0) y (not c)) (sym f) (taken h)),
       )
 
   pub smaller : (j k : Bool) → Bool·beq j k ≡ false → b ≤ s
@@ -142,16 +142,18 @@ module _ (p y b s r : ℕ) (c : Bool) (unit : p ≡ 2 ^ y) (small : r < p) (none
     where
       z : r ≡ 0
       z = exact h
+
       go : (t : Bool) → (T t → b < s) → (T (not t) → s ≤ b) → ((k && t) ≡ sumSign j (b * p) k (s * p + r)) × Cut (2 ^ 64) (sumSize j (b * p) k (s * p + r)) (s - b) y false
       go true l g =
           let f : ltb (b * p) (s * p + r) ≡ true = lt-ltb (b * p) (s * p + r) (lt-of-lt-of-le (mul-lt-mul-of-pos-right (l tt) (positive-unit unit)) (more (s * p) r)) in (
             and-true k ∙ sym (ap (λ (z : Bool). cond z j (cond (ltb (b * p) (s * p + r)) k (j && ltb (s * p + r) (b * p)))) n ∙ ap (λ (z : Bool). cond z k (j && ltb (s * p + r) (b * p))) f),
             subst (λ (z : Bool). Cut (2 ^ 64) (cond z (b * p + (s * p + r)) (cond (ltb (b * p) (s * p + r)) (s * p + r - b * p) (b * p - (s * p + r)))) (s - b) y false) (sym n)
-            (subst (λ (z : Bool). Cut (2 ^ 64) (cond z (s * p + r - b * p) (b * p - (s * p + r))) (s - b) y false) (sym f) (left h)),
+                (subst (λ (z : Bool). Cut (2 ^ 64) (cond z (s * p + r - b * p) (b * p - (s * p + r))) (s - b) y false) (sym f) (left h)),
           )
         where
           positive-unit : p ≡ 2 ^ y → 0 < p
           positive-unit e = subst (λ (x : ℕ). 0 < x) (sym e) (pow-pos y)
+
           more : (a r : ℕ) → a ≤ a + r
           more a r = omega arith
       go false l g =
@@ -161,11 +163,12 @@ module _ (p y b s r : ℕ) (c : Bool) (unit : p ≡ 2 ^ y) (small : r < p) (none
           let f2 : ltb (s * p + r) (b * p) ≡ false = le-ltb (s * p + r) (b * p) (le-of-eq (sym q)) in (
             and-false k ∙ sym (ap (λ (z : Bool). cond z j (cond (ltb (b * p) (s * p + r)) k (j && ltb (s * p + r) (b * p)))) n ∙ ap (λ (z : Bool). cond z k (j && ltb (s * p + r) (b * p))) f ∙ ap (λ (z : Bool). j && z) f2 ∙ and-false j),
             subst (λ (z : Bool). Cut (2 ^ 64) (cond z (b * p + (s * p + r)) (cond (ltb (b * p) (s * p + r)) (s * p + r - b * p) (b * p - (s * p + r)))) (s - b) y false) (sym n)
-            (subst (λ (z : Bool). Cut (2 ^ 64) (cond z (s * p + r - b * p) (b * p - (s * p + r))) (s - b) y false) (sym f) (nothing (s * p + r) (b * p) (s - b) q (gone s b e))),
+                (subst (λ (z : Bool). Cut (2 ^ 64) (cond z (s * p + r - b * p) (b * p - (s * p + r))) (s - b) y false) (sym f) (nothing (s * p + r) (b * p) (s - b) q (gone s b e))),
           )
         where
           gone : (s b : ℕ) → b ≡ s → s - b ≡ 0
           gone s b e = omega arith
+
           nothing : (a c u : ℕ) → a ≡ c → u ≡ 0 → c - a ≡ u * 2 ^ y
           nothing a c u e f = ap (λ (x : ℕ). x - a) (sym e) ∙ self a ∙ sym (ap (λ (x : ℕ). x * 2 ^ y) f ∙ zero-mul (2 ^ y))
             where
@@ -222,6 +225,7 @@ module _ (v w d e : ℕ) (v-lo : 2 ^ 104 ≤ v) (v-hi : v < 2 ^ 106) (w-hi : w <
         where
           all : (d k : ℕ) → d - min d 20 ≡ suc k → min d 20 ≡ 20
           all d k e = omega arith
+
           one : (a k : ℕ) → a ≡ suc k → 1 ≤ a
           one a k e = omega arith
 
@@ -244,7 +248,7 @@ module _ (v w d e : ℕ) (v-lo : 2 ^ 104 ≤ v) (v-hi : v < 2 ^ 106) (w-hi : w <
 
   pub loud : T (not (eqb (w % 2 ^ far) 0)) → (w % 2 ^ far * 2 ^ (e - d) ≡ 0 → ⊥) × (2 ^ 124 ≤ v * 2 ^ room) × (w / 2 ^ far < 2 ^ 105)
   loud t =
-      let n : w % 2 ^ far ≡ 0 → ⊥ = λ (z : w % 2 ^ far ≡ 0). T-not (eqb (w % 2 ^ far) 0) t (subst (λ (x : ℕ). T (eqb x 0)) (sym z) tt) in
+      let n = not-eqb (w % 2 ^ far) t in
       let a = apart n in
       (rest-pos n, a .0, a .1)
 
@@ -277,10 +281,10 @@ module _ (v w d e : ℕ) (v-lo : 2 ^ 104 ≤ v) (v-hi : v < 2 ^ 106) (w-hi : w <
       record {
         sign = h .0 ∙ ap₂ (λ (f g : ℕ). sumSign j f k g) (sym a) (sym c);
         cut = subst (λ (f : ℕ). Cut (2 ^ 64) f (valueOf x) (e - r) t) (ap₂ (λ (f g : ℕ). sumSize j f k g) (sym a) (sym c))
-          (subst (λ (f : ℕ). Cut (2 ^ 64) (sumSize j (v * 2 ^ r * 2 ^ (e - r)) k (w / 2 ^ (d - r) * 2 ^ (e - r) + w % 2 ^ (d - r) * 2 ^ (e - d))) f (e - r) t) (sym q)
-          (subst (Cut (2 ^ 64) (sumSize j (v * 2 ^ r * 2 ^ (e - r)) k (w / 2 ^ (d - r) * 2 ^ (e - r) + w % 2 ^ (d - r) * 2 ^ (e - d))) n (e - r)) (sym p) (h .1)));
+            (subst (λ (f : ℕ). Cut (2 ^ 64) (sumSize j (v * 2 ^ r * 2 ^ (e - r)) k (w / 2 ^ (d - r) * 2 ^ (e - r) + w % 2 ^ (d - r) * 2 ^ (e - d))) f (e - r) t) (sym q)
+            (subst (Cut (2 ^ 64) (sumSize j (v * 2 ^ r * 2 ^ (e - r)) k (w / 2 ^ (d - r) * 2 ^ (e - r) + w % 2 ^ (d - r) * 2 ^ (e - d))) n (e - r)) (sym p) (h .1)));
         near = near;
-        short = subst (λ (f : ℕ). f < 2 ^ 128) (sym l) (mod-lt o (pow-pos 128))
+        short = subst (λ (f : ℕ). f < 2 ^ 128) (sym l) (mod-lt o (pow-pos 128));
       }
 
   big : Aligned r → valueOf b ≡ v * 2 ^ r
@@ -312,6 +316,7 @@ module _ (v w d e : ℕ) (v-lo : 2 ^ 104 ≤ v) (v-hi : v < 2 ^ 106) (w-hi : w <
       one : (t : Bool) (B S : ℕ) → S < B → cond t 1 0 ≤ B - S
       one true B S h = omega arith
       one false B S h = omega arith
+
       cap : (B S : ℕ) → B - S ≤ B
       cap B S = omega arith
 

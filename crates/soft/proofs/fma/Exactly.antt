@@ -5,7 +5,7 @@ use Prim.Native.Nat.{ℕ, zero, suc, _+_, _-_, _*_, _/_, _%_, _^_, _≤_, _<_}
 use native.Mathlib.Nat.{le-refl, le-trans, le-of-eq, le-of-lt, lt-of-lt-of-le, lt-of-le-of-lt, lt-of-not-le, lt-irrefl, mul-assoc, mul-comm, mul-left-comm, mul-pos, mul-le-mul-right, mul-lt-mul-of-pos-right, le-div-iff-mul-le, mod-eq-of-lt, mod-one, add-assoc, sub-add-cancel}
 use native.Mathlib.Omega.{arith}
 use borrow.Author.Tests.{lt-ltb, le-ltb}
-use lib.Dec.{T, T-not, ltb, ltb→lt, nltb→le, eqb, eqb→eq, lit≤}
+use lib.Dec.{T, ltb, ltb→lt, nltb→le, eqb, eqb→eq, lit≤}
 use lib.IntN.{ℤ}
 use lib.Pow.{pow-pos, pow-add, pow-mono, shl-lt}
 use lib.Ieee.{Float, nan, inf, fin, Format, binary32, binary64, prec, low, up, down, unlike, size, round, sum, fits, eq}
@@ -14,7 +14,8 @@ use lib.Ieee.Exact.{HasValue}
 use lib.Ieee.Fits.{down-pos, kept-lt}
 use lib.Ieee.Scale.{finite, round-same}
 use Rattle.rounding.proofs.Place.{size-pos}
-use Rattle.rounding.proofs.Sticky.{bit, Cut, cut-rounds, cut-again}
+use Rattle.rounding.proofs.Basics.{not-eqb}
+use Rattle.rounding.proofs.Sticky.{Cut, cut-rounds, cut-again, keeps}
 use Rattle.rounding.proofs.Sum.{sumSign, sumSize, sum-is, sum-same}
 use Rattle.soft.specs.declared.pack.Scaled.{Scaled}
 use Rattle.soft.specs.Fma.{times, plus, fmaDef}
@@ -31,7 +32,7 @@ ready (fin s zero e) h g n = absurd (has-digits s zero e n refl)
 ready (fin s (suc m) e) h g n = record {
   above = digits-pos binary64 s m e h;
   below = digits-lt binary64 (fin s (suc m) e) h g;
-  near = lt-of-lt-of-le (places-lt binary64 (fin s (suc m) e) h g) (lit≤ tt)
+  near = lt-of-lt-of-le (places-lt binary64 (fin s (suc m) e) h g) (lit≤ tt);
 }
 
 -- ---- its size in units
@@ -48,6 +49,7 @@ product-over a A b B g dx dy k p q j w e =
   where
     spread : (a b g k j : ℕ) → a * b * g * (k * k * j) ≡ a * k * (b * k) * (g * j)
     spread a b g k j = simp (mul-assoc, mul-comm, mul-left-comm)
+
     shut : (A x B y g j : ℕ) → A * x * (B * y) * (g * j) ≡ A * B * j * (x * y * g)
     shut A x B y g j = simp (mul-assoc, mul-comm, mul-left-comm)
 
@@ -56,6 +58,7 @@ third-over c C dz dx dy k p j w i e = ap (λ (z : ℕ). c * (dx * dy) * z) e ∙
   where
     spread : (c x y k i : ℕ) → c * (x * y) * (k * i) ≡ c * k * (x * y * i)
     spread c x y k i = simp (mul-assoc, mul-comm, mul-left-comm)
+
     shut : (C z x y i : ℕ) → C * z * (x * y * i) ≡ C * i * (x * y * z)
     shut C z x y i = simp (mul-assoc, mul-comm, mul-left-comm)
 
@@ -80,14 +83,6 @@ pub exact-sum : (f : Format) (x y z : Float) → T (fits binary64 x) → T (fits
 exact-sum f x y z a b c p q r = over-one f x y z (signOf x) (signOf y) (signOf z) (sizeOf x) (sizeOf y) (sizeOf z) (measured binary64 x a p) (measured binary64 y b q) (measured binary64 z c r)
 
 -- ---- the first 62 digits
-keeps : (f : Format) → 2 ^ prec f ≤ 2 ^ 60
-keeps binary32 = lit≤ tt
-keeps binary64 = lit≤ tt
-
-bit-is : (b : Bool) → bit b ≡ cond b 1 0
-bit-is true = refl
-bit-is false = refl
-
 long : (w : ℕ) → 62 ≤ size w → 2 ^ 60 ≤ w / 2 ^ (size w - 62)
 long w h =
     le-div-iff-mul-le (pow-pos (size w - 62)) .1
@@ -110,9 +105,6 @@ lost-long w n = go (ltb (size w) 62) (ltb→lt (size w) 62) (nltb→le (size w) 
 big-long : (w : ℕ) → 2 ^ 64 ≤ w → 62 ≤ size w
 big-long w h = le-of-lt (lt-of-not-le (λ (g : size w ≤ 62). lt-irrefl (2 ^ 62) (lt-of-lt-of-le (lt-of-lt-of-le (lit≤ tt) h) (le-of-lt (lt-of-lt-of-le (size-lt w) (pow-mono g))))))
 
-not-eqb : (a : ℕ) → T (not (eqb a 0)) → a ≡ 0 → ⊥
-not-eqb a t e = T-not (eqb a 0) t (subst (λ (x : ℕ). T (eqb x 0)) (sym e) tt)
-
 enough : (x w y : ℕ) (b : Bool) → Cut (2 ^ 64) x w y b → T (b || not (eqb (w % 2 ^ (size w - 62)) 0)) → 2 ^ 60 ≤ w / 2 ^ (size w - 62)
 enough x w y true h t = long w (big-long w (h .2))
 enough x w y false h t = long w (lost-long w (not-eqb (w % 2 ^ (size w - 62)) t))
@@ -124,7 +116,6 @@ squeezed f s x w y b h =
     let n = size w - 62 in
     let c = eqb (w % 2 ^ n) 0 in
     cut-rounds f s (2 ^ 60) x (w / 2 ^ n) (y + n) 2254 (b || not c) (keeps f) (cut-again x w y n (2 ^ 64) (2 ^ 60) b c h (eqb→eq (w % 2 ^ n) 0) (not-eqb (w % 2 ^ n)) (enough x w y b h))
-    ∙ ap (λ (v : ℕ). round f s ((w / 2 ^ n * 2 + v) * 2 ^ (y + n)) (2 ^ 2255)) (bit-is (b || not c))
 
 pub squeezed-lt : (w : ℕ) (b : Bool) → squeezeDef w b .digits < 2 ^ 63
 unfolding squeezeDef
@@ -154,15 +145,18 @@ fill d p z a b c e = subst (λ (y : ℕ). Full d p (record { digits = d * 2 ^ (5
           least = subst (λ (x : ℕ). 2 ^ 52 ≤ x) (sym is) ge;
           below = subst (λ (x : ℕ). x < 2 ^ 53) (sym is) lt;
           near = omega arith;
-          is = ap (λ (x : ℕ). x * 2 ^ (p + y)) is ∙ ap (λ (x : ℕ). d * 2 ^ (53 - y) * x) (pow-add 2 p y) ∙ turn d (2 ^ (53 - y)) (2 ^ p) (2 ^ y) ∙ ap (λ (x : ℕ). d * 2 ^ p * x) (sym (pow-add 2 y (53 - y)) ∙ ap (λ (x : ℕ). 2 ^ x) (join y h))
+          is = ap (λ (x : ℕ). x * 2 ^ (p + y)) is ∙ ap (λ (x : ℕ). d * 2 ^ (53 - y) * x) (pow-add 2 p y) ∙ turn d (2 ^ (53 - y)) (2 ^ p) (2 ^ y) ∙ ap (λ (x : ℕ). d * 2 ^ p * x) (sym (pow-add 2 y (53 - y)) ∙ ap (λ (x : ℕ). 2 ^ x) (join y h));
         }
       where
         join : (y : ℕ) → y ≤ 53 → y + (53 - y) ≡ 53
         join y h = omega arith
+
         drop : (y : ℕ) → y ≤ 53 → 0 < y → y - 1 + (53 - y) ≡ 52
         drop y h g = omega arith
+
         pred : (y : ℕ) → 0 < y → y - 1 < y
         pred y g = omega arith
+
         turn : (d n p y : ℕ) → d * n * (p * y) ≡ d * p * (y * n)
         turn d n p y = simp (mul-assoc, mul-comm, mul-left-comm)
 
@@ -195,15 +189,19 @@ swap-size s a t b = go s t (ltb a b) (ltb b a) (ltb→lt a b) (ltb→lt b a) (nl
   where
     like : b + a ≡ a + b
     like = omega arith
+
     same : b ≤ a → a ≤ b → b - a ≡ a - b
     same h k = omega arith
+
     clash : a < b → b < a → ⊥
     clash h k = omega arith
+
     unlike-go : (p q : Bool) → (T p → a < b) → (T q → b < a) → (T (not p) → b ≤ a) → (T (not q) → a ≤ b) → cond q (a - b) (b - a) ≡ cond p (b - a) (a - b)
     unlike-go true true h k m n = absurd (clash (h tt) (k tt))
     unlike-go true false h k m n = refl
     unlike-go false true h k m n = refl
     unlike-go false false h k m n = same (m tt) (n tt)
+
     go : (s t p q : Bool) → (T p → a < b) → (T q → b < a) → (T (not p) → b ≤ a) → (T (not q) → a ≤ b)
         → cond (Bool·beq t s) (b + a) (cond q (a - b) (b - a)) ≡ cond (Bool·beq s t) (a + b) (cond p (b - a) (a - b))
     go true true p q h k m n = like

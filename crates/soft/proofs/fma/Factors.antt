@@ -34,6 +34,7 @@ product-is dx px dy py a b n f g e =
   where
     pair : (a b p q : ℕ) → a * b * (p * q) ≡ a * p * (b * q)
     pair a b p q = simp (mul-assoc, mul-comm, mul-left-comm)
+
     join : (x y k m : ℕ) → m ≡ k * k → x * k * (y * k) ≡ x * y * m
     join x y k m e = turn x y k ∙ ap (λ (z : ℕ). x * y * z) (sym e)
       where
@@ -47,6 +48,7 @@ third-is dz pz c n f e =
   where
     pair : (a b p q : ℕ) → a * b * (p * q) ≡ a * p * (b * q)
     pair a b p q = simp (mul-assoc, mul-comm, mul-left-comm)
+
     join : (x k j m : ℕ) → m ≡ k * j → x * k * j ≡ x * m
     join x k j m e = mul-assoc x k j ∙ ap (λ (z : ℕ). x * z) (sym e)
 
@@ -59,7 +61,7 @@ turned s a t b r m = record {
   sign = m .sign ∙ swap-sign s a t b;
   cut = subst (λ (x : ℕ). Cut (2 ^ 64) x (valueOf (r .whole)) (r .places) (r .sticky)) (swap-size s a t b) (m .cut);
   near = m .near;
-  short = m .short
+  short = m .short;
 }
 
 sub-back : (p q : ℕ) → q ≤ p → p - (p - q) ≡ q

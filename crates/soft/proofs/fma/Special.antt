@@ -10,6 +10,7 @@ use lib.IntN.{ℤ, pos, negsuc}
 use lib.Ieee.{Float, nan, inf, fin, Format, binary32, binary64, unlike, up, down, round, sum, add, mul, eq}
 use lib.Ieee.Fits.{up-pos, down-pos}
 use lib.Ieee.Scale.{finite, round-same}
+use Rattle.rounding.proofs.Basics.{pos-of}
 use Rattle.rounding.proofs.Sum.{sumSign, sumSize, sum-is, sum-same}
 use Rattle.soft.specs.Fma.{Exact, invalid, infinite, ratio, times, plus, fmaDef}
 
@@ -70,7 +71,7 @@ no-digits s m e h = no-product m e (eqb-true (m * up e * 1) (0 * 1 * down e) (le
 pub has-digits : (s : Bool) (m : ℕ) (e : ℤ) → eq (fin s m e) zero-float ≡ false → m ≡ 0 → ⊥
 unfolding eq
 has-digits s m e h z = true≢false (sym (ap (λ (x : ℕ). eqb x (0 * 1 * down e) && (Bool·beq s false || eqb x 0)) (ap (λ (x : ℕ). x * up e * 1) z ∙ ap (λ (x : ℕ). x * 1) (zero-mul (up e)))
-  ∙ ap (λ (x : ℕ). eqb 0 x && (Bool·beq s false || true)) (zero-mul (down e)) ∙ any s) ∙ h)
+    ∙ ap (λ (x : ℕ). eqb 0 x && (Bool·beq s false || true)) (zero-mul (down e)) ∙ any s) ∙ h)
   where
     any : (s : Bool) → (Bool·beq s false || true) ≡ true
     any true = refl
@@ -131,6 +132,7 @@ alone s t a h = (
     keep true s = refl
     keep false true = refl
     keep false false = refl
+
     whole : (b : Bool) (a : ℕ) → cond b (a + 0) (a - 0) ≡ a
     whole true a = add-zero a
     whole false a = omega arith
@@ -147,7 +149,7 @@ zero-third f (fin s m e) (fin t n d) (fin u l i) g h k p q r =
     let a = m * up e * (n * up d) in
     let c = down e * down d in
     let C : 0 < c = mul-pos (down-pos e) (down-pos d) in
-    let A : 0 < a = mul-pos (mul-pos (above m (has-digits s m e p)) (up-pos e)) (mul-pos (above n (has-digits t n d q)) (up-pos d)) in
+    let A : 0 < a = mul-pos (mul-pos (pos-of m (has-digits s m e p)) (up-pos e)) (mul-pos (pos-of n (has-digits t n d q)) (up-pos d)) in
     let o = alone (unlike s t) u (a * down i) (mul-pos A (down-pos i)) in
     round-same f (unlike s t) a c (a * down i) (c * down i) C (mul-pos C (down-pos i)) (swap a c (down i))
     ∙ sym (ap (λ (y : ℕ). sum f (unlike s t) (a * down i) u y (c * down i)) (ap (λ (y : ℕ). y * up i * c) (no-digits u l i r) ∙ ap (λ (y : ℕ). y * c) (zero-mul (up i)) ∙ zero-mul c)
@@ -155,8 +157,5 @@ zero-third f (fin s m e) (fin t n d) (fin u l i) g h k p q r =
     ∙ ap (λ (b : Bool). round f b (sumSize (unlike s t) (a * down i) u 0) (c * down i)) (o .0)
     ∙ ap (λ (y : ℕ). round f (unlike s t) y (c * down i)) (o .1))
   where
-    above : (n : ℕ) → (n ≡ 0 → ⊥) → 0 < n
-    above zero h = absurd (h refl)
-    above (suc n) h = zero-lt-suc n
     swap : (a c d : ℕ) → a * (c * d) ≡ a * d * c
     swap a c d = omega arith

@@ -6,14 +6,15 @@ use Prim.Native.Nat.{ℕ, zero, suc, _+_, _-_, _*_, _/_, _%_, _^_, _≤_, _<_}
 use native.Mathlib.Nat.{add-zero, add-assoc, mul-one, zero-mul, mul-assoc, mul-comm, mul-left-comm, le-trans, le-of-eq, lt-of-lt-of-le, lt-of-le-of-lt, mul-lt-mul-of-pos-right, mul-le-mul-right, mod-lt}
 use native.Mathlib.Omega.{arith}
 use borrow.Author.Tests.{ltb-true}
-use lib.Dec.{T, T-not, eqb, eqb→eq, ltb, ltb→lt, nltb→le, leb→le, lit≤, lit<}
+use lib.Dec.{T, eqb, eqb→eq, ltb, ltb→lt, nltb→le, leb→le, lit≤, lit<}
 use lib.IntN.{ℤ, pos, negsuc}
 use lib.Signed.{ltZ, leZ}
 use lib.Pow.{pow-pos, pow-add, pow-mono}
 use lib.Ieee.{Float, Format, binary32, binary64, prec, low, up, down, round}
 use lib.Ieee.Fits.{down-pos}
 use lib.Ieee.Scale.{round-same}
-use Rattle.rounding.proofs.Sticky.{bit, Cut, cut-rounds}
+use Rattle.rounding.proofs.Basics.{pos-of, not-eqb}
+use Rattle.rounding.proofs.Sticky.{Cut, cut-rounds, keeps}
 use Rattle.rounding.proofs.Tiny.{tiny}
 use Rattle.soft.specs.Pack.{packDef}
 use Rattle.soft.specs.Steps.{foldDef, pickScaled}
@@ -28,19 +29,17 @@ counted f s q t e n h =
   where
     twice : (d : ℕ) → 0 < d → 0 < d * 2
     twice d p = omega arith
+
     join : (v u w n d w2 : ℕ) → w2 ≡ w * 2 → u * w ≡ n * d → v * u * w2 ≡ v * n * (d * 2)
     join v u w n d w2 a b = ap (λ (x : ℕ). v * u * x) a ∙ swap v u w ∙ ap (λ (x : ℕ). v * x * 2) b ∙ back v n d
       where
         swap : (v u w : ℕ) → v * u * (w * 2) ≡ v * (u * w) * 2
         swap v u w = omega arith
+
         back : (v n d : ℕ) → v * (n * d) * 2 ≡ v * n * (d * 2)
         back v n d = omega arith
 
 -- ---- the last two digits of a long q, joined to the sticky bit
-keeps : (f : Format) → 2 ^ prec f ≤ 2 ^ 60
-keeps binary32 = lit≤ tt
-keeps binary64 = lit≤ tt
-
 eight : (n : ℕ) → 2 ^ (n + 3) ≡ 8 * 2 ^ n
 eight n = pow-add 2 n 3 ∙ mul-comm (2 ^ n) 8
 
@@ -54,15 +53,12 @@ above q i n big l g = (
   where
     up : (w : ℕ) → w * 2 ^ (n + 3) ≡ w * 8 * 2 ^ n
     up w = ap (λ (x : ℕ). w * x) (eight n) ∙ sym (mul-assoc w 8 (2 ^ n))
+
     quarter : (q : ℕ) → 2 ^ 62 ≤ q → 2 ^ 60 ≤ q / 4
     quarter q h = omega arith
 
 low-digits : (q : ℕ) → (q % 4 ≡ 0 → ⊥) → q / 4 * 8 < q * 2 + 0
 low-digits q n = let h : 0 < q % 4 = pos-of (q % 4) n in omega arith
-  where
-    pos-of : (r : ℕ) → (r ≡ 0 → ⊥) → 0 < r
-    pos-of zero n = absurd (n refl)
-    pos-of (suc r) n = omega arith
 
 join-bit : (q n : ℕ) (t b : Bool) → 2 ^ 62 ≤ q → (T b → q % 4 ≡ 0) → (T (not b) → q % 4 ≡ 0 → ⊥) → Cut (2 ^ 60) ((q * 2 + cond t 1 0) * 2 ^ n) (q / 4) (n + 3) (t || not b)
 join-bit q n true b big y z = above q 1 n big (omega arith) (omega arith)
@@ -72,13 +68,6 @@ join-bit q n false true big y z = ap (λ (x : ℕ). x * 2 ^ n) (whole q (y tt)) 
     whole : (q : ℕ) → q % 4 ≡ 0 → q * 2 + 0 ≡ q / 4 * 8
     whole q e = omega arith
 
-bit-is : (b : Bool) → bit b ≡ cond b 1 0
-bit-is true = refl
-bit-is false = refl
-
-not-eqb : (a : ℕ) → T (not (eqb a 0)) → a ≡ 0 → ⊥
-not-eqb a t e = T-not (eqb a 0) t (subst (λ (x : ℕ). T (eqb x 0)) (sym e) tt)
-
 -- the two forms of a folded number round alike
 pub folded : (f : Format) (s : Bool) (q n : ℕ) (t : Bool) → round f s ((q * 2 + cond t 1 0) * 2 ^ n) (2 ^ 2255) ≡ round f s (foldDef q t .digits * 2 ^ (n + foldDef q t .places)) (2 ^ 2255)
 unfolding foldDef
@@ -86,10 +75,10 @@ folded f s q n t = go (ltb q (2 ^ 62)) (nltb→le q (2 ^ 62))
   where
     b : Bool
     b = t || not (eqb (q % 4) 0)
+
     long : 2 ^ 62 ≤ q → round f s ((q * 2 + cond t 1 0) * 2 ^ n) (2 ^ 2255) ≡ round f s ((q / 4 * 2 + cond b 1 0) * 2 ^ (n + 2)) (2 ^ 2255)
     long big =
         cut-rounds f s (2 ^ 60) ((q * 2 + cond t 1 0) * 2 ^ n) (q / 4) (n + 3) 2255 b (keeps f) (join-bit q n t (eqb (q % 4) 0) big (eqb→eq (q % 4) 0) (not-eqb (q % 4)))
-        ∙ ap (λ (x : ℕ). round f s ((q / 4 * 2 + x) * 2 ^ (n + 3)) (2 ^ 2256)) (bit-is b)
         ∙ halve (q / 4 * 2 + cond b 1 0)
       where
         halve : (v : ℕ) → round f s (v * 2 ^ (n + 3)) (2 ^ 2256) ≡ round f s (v * 2 ^ (n + 2)) (2 ^ 2255)
@@ -102,6 +91,7 @@ folded f s q n t = go (ltb q (2 ^ 62)) (nltb→le q (2 ^ 62))
               where
                 swap : (v c w : ℕ) → v * (c * 2) * w ≡ v * c * (w * 2)
                 swap v c w = omega arith
+
     go : (a : Bool) → (T (not a) → 2 ^ 62 ≤ q)
         → round f s ((q * 2 + cond t 1 0) * 2 ^ n) (2 ^ 2255) ≡ round f s (pickScaled a (record { digits = q * 2 + cond t 1 0; places = 0 }) (record { digits = q / 4 * 2 + cond b 1 0; places = 2 }) .digits * 2 ^ (n + pickScaled a (record { digits = q * 2 + cond t 1 0; places = 0 }) (record { digits = q / 4 * 2 + cond b 1 0; places = 2 }) .places)) (2 ^ 2255)
     go true h = ap (λ (x : ℕ). round f s ((q * 2 + cond t 1 0) * 2 ^ x) (2 ^ 2255)) (sym (add-zero n))
@@ -118,6 +108,7 @@ fold-lt q t h = go (ltb q (2 ^ 62)) (ltb→lt q (2 ^ 62)) (bit-le t) (bit-le (t 
     bit-le : (b : Bool) → cond b 1 0 ≤ 1
     bit-le true = lit≤ tt
     bit-le false = lit≤ tt
+
     go : (a : Bool) → (T a → q < 2 ^ 62) → cond t 1 0 ≤ 1 → cond (t || not (eqb (q % 4) 0)) 1 0 ≤ 1 → pickScaled a (record { digits = q * 2 + cond t 1 0; places = 0 }) (record { digits = q / 4 * 2 + cond (t || not (eqb (q % 4) 0)) 1 0; places = 2 }) .digits < 2 ^ 63
     go true l x y = let k : q < 2 ^ 62 = l tt in omega arith
     go false l x y = omega arith
@@ -149,7 +140,9 @@ far-below f s q t (negsuc a) h l =
     few : (t : Bool) → (q * 2 + cond t 1 0) * 1 < 2 ^ 66
     few true = omega arith
     few false = omega arith
+
     half : (x y : ℕ) → x < y → x * 2 < y * 2
     half x y l = omega arith
+
     reach : (l a : ℕ) → l ≤ 1074 → 2253 < a → 2 ^ 66 * 2 ^ l * 2 ≤ 2 ^ suc a * 2
     reach l a x y = mul-le-mul-right 2 (le-trans (le-of-eq (sym (pow-add 2 66 l))) (pow-mono {i = 66 + l} {j = suc a} (omega arith)))

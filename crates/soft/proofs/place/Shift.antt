@@ -2,25 +2,16 @@
 use mathlib.Core.Path.{_≡_, refl, sym, ap, _∙_, subst}
 use mathlib.Core.Bool.{Bool, true, false, cond}
 use Prim.Native.Nat.{ℕ, zero, suc, _+_, _-_, _*_, _/_, _%_, _^_, _≤_, _<_, min, compare}
-use native.Mathlib.Nat.{mod-lt, one-mul, le-trans, le-of-eq, lt-of-lt-of-le, lt-of-le-of-lt, mul-le-mul-right, add-comm, div-le-self}
+use native.Mathlib.Nat.{mod-lt, le-of-lt, le-trans, le-of-eq, lt-of-lt-of-le, lt-of-le-of-lt, mul-le-mul-right, add-comm, div-le-self}
 use native.Mathlib.Omega.{arith}
-use lib.Dec.{eqb, lit<, eqb·suc-zero}
-use lib.Pow.{pow-pos, pow-add, pow-mono, shl-exact}
+use lib.Dec.{eqb, eqb·suc-zero}
+use lib.Pow.{pow-pos, pow-mono}
 use lib.Ieee.{size, nearest}
 use lib.Ieee.Fits.{nearest-le}
 use lib.Ieee.Nearest.{closest}
+use Rattle.rounding.proofs.Basics.{half-word, twice-half}
 use Rattle.rounding.proofs.Closest.{by-shift, too-small}
 use Rattle.rounding.proofs.Place.{normalised, patternOf, placedBits}
-
--- the word that the code shifts: 2 ^ n, as 1 << n has it
-pub half-word : (d : ℕ) → d < 64 → 1 * 2 ^ (d - 1) % 2 ^ 64 ≡ 2 ^ (d - 1)
-half-word d h = shl-exact {a = 1} 1 (d - 1) 64 (lit< tt) (omega arith) ∙ one-mul (2 ^ (d - 1))
-
-pub twice-half : (d : ℕ) → 0 < d → 2 ^ (d - 1) * 2 ≡ 2 ^ d
-twice-half d h = sym (pow-add 2 (d - 1) 1) ∙ ap (λ (x : ℕ). 2 ^ x) (back d h)
-  where
-    back : (d : ℕ) → 0 < d → d - 1 + 1 ≡ d
-    back d h = omega arith
 
 pub half-le : (d : ℕ) → d < 64 → 2 ^ (d - 1) ≤ 2 ^ 62
 half-le d h = pow-mono {i = d - 1} {j = 62} (omega arith)
@@ -33,7 +24,7 @@ far v d h g = sym (too-small v (2 ^ d) (lt-of-lt-of-le (twice v h) (pow-mono g))
 
 pub near : (v d : ℕ) → 0 < d → d < 64 → (v + (1 * 2 ^ (d - 1) % 2 ^ 64 - 1) + v / 2 ^ d % 2) / 2 ^ d ≡ closest v (2 ^ d)
 near v d p h =
-    ap (λ (x : ℕ). (v + (x - 1) + v / 2 ^ d % 2) / 2 ^ d) (half-word d h)
+    ap (λ (x : ℕ). (v + (x - 1) + v / 2 ^ d % 2) / 2 ^ d) (half-word d (le-of-lt h))
     ∙ ap (λ (x : ℕ). (v + (2 ^ (d - 1) - 1) + v / x % 2) / x) (sym (twice-half d p))
     ∙ by-shift v (2 ^ (d - 1)) (pow-pos (d - 1))
     ∙ ap (closest v) (twice-half d p)
@@ -61,7 +52,3 @@ placed-pos g t h o (suc v) x n = ap (λ (b : Bool). cond b 0 (patternOf g t h o 
 
 pub placed-zero : (g t h o v x : ℕ) → v ≡ 0 → 0 ≡ placedBits g t h o v x
 placed-zero g t h o v x e = sym (ap (λ (y : ℕ). placedBits g t h o y x) e)
-
-pub pos-of : (v : ℕ) → (v ≡ 0 → ⊥) → 0 < v
-pos-of zero n = absurd (n refl)
-pos-of (suc v) n = omega arith

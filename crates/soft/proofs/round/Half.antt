@@ -13,6 +13,7 @@ use lib.Ieee.Exact.{HasValue, round-exact}
 use lib.Ieee.Fits.{down-pos, two, round-fits, fits-widens}
 use lib.Ieee.Nearest.{div-same}
 use lib.Ieee.Scale.{finite}
+use Rattle.rounding.proofs.Basics.{twice-half}
 use Rattle.rounding.proofs.Pattern.{pow-lt-back}
 use Rattle.soft.specs.HalfAway.{halfAway, roundDef}
 use Rattle.soft.specs.Units.{unitsDef}
@@ -46,24 +47,24 @@ abbrev pub half : (d p l : ℕ) → ℕ
 half d p l = (d * 2 ^ p * 2 + 2 ^ l) / (2 ^ l * 2)
 
 module _ (d p l : ℕ) (h : p < l) where
-  back : l - p - 1 + 1 ≡ l - p
-  back = omega arith
+  apart : 0 < l - p
+  apart = omega arith
 
-  twice-half : 2 ^ (l - p) ≡ 2 ^ (l - p - 1) * 2
-  twice-half = ap (λ (x : ℕ). 2 ^ x) (sym back) ∙ pow-add 2 (l - p - 1) 1
+  halved : 2 ^ (l - p) ≡ 2 ^ (l - p - 1) * 2
+  halved = sym (twice-half (l - p) apart)
 
   -- as the code has it: a half is 1 in the place below 2 ^ (l - p)
   pub by-shift : half d p l ≡ (d + 2 ^ (l - p - 1)) / 2 ^ (l - p)
   by-shift =
       div-same (d * 2 ^ p * 2 + 2 ^ l) (2 ^ l * 2) (d + 2 ^ (l - p - 1)) (2 ^ (l - p)) (mul-pos (pow-pos l) (pow-pos 1)) (pow-pos (l - p))
-      (ring (2 ^ p) (2 ^ l) (2 ^ (l - p)) (2 ^ (l - p - 1)) (ap (λ (x : ℕ). 2 ^ x) (sym (sub-add-cancel (le-of-lt h))) ∙ pow-add 2 (l - p) p) twice-half)
+      (ring (2 ^ p) (2 ^ l) (2 ^ (l - p)) (2 ^ (l - p - 1)) (ap (λ (x : ℕ). 2 ^ x) (sym (sub-add-cancel (le-of-lt h))) ∙ pow-add 2 (l - p) p) halved)
     where
       ring : (p l g h : ℕ) → l ≡ g * p → g ≡ h * 2 → (d * p * 2 + l) * g ≡ (d + h) * (l * 2)
       ring p l g h a b = rw (a, b) (omega arith)
 
   -- below a half
   pub vanishes : d < 2 ^ (l - p - 1) → half d p l ≡ 0
-  vanishes k = by-shift ∙ div-eq-of-lt (lt-of-lt-of-le (twice (2 ^ (l - p - 1)) k) (le-of-eq (sym twice-half)))
+  vanishes k = by-shift ∙ div-eq-of-lt (lt-of-lt-of-le (twice (2 ^ (l - p - 1)) k) (le-of-eq (sym halved)))
     where
       twice : (g : ℕ) → d < g → d + g < g * 2
       twice g k = omega arith
@@ -76,7 +77,7 @@ module _ (d p l : ℕ) (h : p < l) where
       (le-of-suc-le-suc
       (subst (λ (x : ℕ). x < suc (2 ^ prec f)) (sym by-shift)
       (div-lt-iff-lt-mul (pow-pos (l - p)) .1
-      (more (2 ^ (l - p - 1)) (2 ^ (l - p)) (2 ^ prec f) (lt-of-lt-of-le k (le-trans (pow-mono g) (le-of-eq (pow-add 2 (prec f) (l - p))))) twice-half))))
+      (more (2 ^ (l - p - 1)) (2 ^ (l - p)) (2 ^ prec f) (lt-of-lt-of-le k (le-trans (pow-mono g) (le-of-eq (pow-add 2 (prec f) (l - p))))) halved))))
     where
       more : (g w b : ℕ) → d < b * w → w ≡ g * 2 → d + g < suc b * w
       more g w b k e = omega arith

@@ -66,10 +66,11 @@ measure-requires-3 c κs = holds (yes (c .before .before .before .before .before
 
 fused-requires : tie.Need-fused-requires
 unfolding ofBits
-fused-requires c κs = 
-    (operand-ready (c .before .before .before .before .before .before .before .before .before .before .before .before .before .before .before .args .x) (c .before .before .measure .result) (record { held = fits-widens (c .before .before .before .before .before .before .before .before .before .before .before .before .before .before .before .args .x) (holds (c .before .before .before .before .before .before .before .before .before .before .before .before .before .before .before .good .0 .1)); finite-is = (yes (c .before .before .before .before .before .before .before .before .before .before .before .before .before .before .before .args .x) (c .before .before .before .before .before .before .before .before .before .before .before .is-finite .result) (c .before .before .before .before .before .before .before .before .before .before .before .is-finite .ensures ∙ ap finite (c .before .before .before .before .before .before .before .before .before .before .before .before .before .before .f32-to-f64-with-nan .ensures)) (c .before .before .before .before .before .before .before .before .before .before .if1 .left)); measure-is = c .before .before .measure .ensures ∙ ap (unitsDef binary64) (c .before .before .before .before .before .before .before .before .before .before .before .before .before .before .f32-to-f64-with-nan .ensures) }) (c .before .before .before .before .before .if4 .left),
-    operand-ready (c .before .before .before .before .before .before .before .before .before .before .before .before .before .before .before .args .y) (c .before .measure2 .result) (record { held = fits-widens (c .before .before .before .before .before .before .before .before .before .before .before .before .before .before .before .args .y) (holds (c .before .before .before .before .before .before .before .before .before .before .before .before .before .before .before .good .1 .0 .1)); finite-is = (yes (c .before .before .before .before .before .before .before .before .before .before .before .before .before .before .before .args .y) (c .before .before .before .before .before .before .before .before .before .is-finite2 .result) (c .before .before .before .before .before .before .before .before .before .is-finite2 .ensures ∙ ap finite (c .before .before .before .before .before .before .before .before .before .before .before .before .before .f32-to-f64-with-nan2 .ensures)) (c .before .before .before .before .before .before .before .before .if2 .left)); measure-is = c .before .measure2 .ensures ∙ ap (unitsDef binary64) (c .before .before .before .before .before .before .before .before .before .before .before .before .before .f32-to-f64-with-nan2 .ensures) }) (c .before .before .before .before .if5 .left),
-    operand-ready (c .before .before .before .before .before .before .before .before .before .before .before .before .before .before .before .args .z) (c .measure3 .result) (record { held = fits-widens (c .before .before .before .before .before .before .before .before .before .before .before .before .before .before .before .args .z) (holds (c .before .before .before .before .before .before .before .before .before .before .before .before .before .before .before .good .1 .1 .0 .1)); finite-is = (yes (c .before .before .before .before .before .before .before .before .before .before .before .before .before .before .before .args .z) (c .before .before .before .before .before .before .before .is-finite3 .result) (c .before .before .before .before .before .before .before .is-finite3 .ensures ∙ ap finite (c .before .before .before .before .before .before .before .before .before .before .before .before .f32-to-f64-with-nan3 .ensures)) (c .before .before .before .before .before .before .if3 .left)); measure-is = c .measure3 .ensures ∙ ap (unitsDef binary64) (c .before .before .before .before .before .before .before .before .before .before .before .before .f32-to-f64-with-nan3 .ensures) }) (c .before .before .before .if6 .left))
+fused-requires c κs = (
+  operand-ready (c .before .before .before .before .before .before .before .before .before .before .before .before .before .before .before .args .x) (c .before .before .measure .result) (record { held = fits-widens (c .before .before .before .before .before .before .before .before .before .before .before .before .before .before .before .args .x) (holds (c .before .before .before .before .before .before .before .before .before .before .before .before .before .before .before .good .0 .1)); finite-is = (yes (c .before .before .before .before .before .before .before .before .before .before .before .before .before .before .before .args .x) (c .before .before .before .before .before .before .before .before .before .before .before .is-finite .result) (c .before .before .before .before .before .before .before .before .before .before .before .is-finite .ensures ∙ ap finite (c .before .before .before .before .before .before .before .before .before .before .before .before .before .before .f32-to-f64-with-nan .ensures)) (c .before .before .before .before .before .before .before .before .before .before .if1 .left)); measure-is = c .before .before .measure .ensures ∙ ap (unitsDef binary64) (c .before .before .before .before .before .before .before .before .before .before .before .before .before .before .f32-to-f64-with-nan .ensures) }) (c .before .before .before .before .before .if4 .left),
+  operand-ready (c .before .before .before .before .before .before .before .before .before .before .before .before .before .before .before .args .y) (c .before .measure2 .result) (record { held = fits-widens (c .before .before .before .before .before .before .before .before .before .before .before .before .before .before .before .args .y) (holds (c .before .before .before .before .before .before .before .before .before .before .before .before .before .before .before .good .1 .0 .1)); finite-is = (yes (c .before .before .before .before .before .before .before .before .before .before .before .before .before .before .before .args .y) (c .before .before .before .before .before .before .before .before .before .is-finite2 .result) (c .before .before .before .before .before .before .before .before .before .is-finite2 .ensures ∙ ap finite (c .before .before .before .before .before .before .before .before .before .before .before .before .before .f32-to-f64-with-nan2 .ensures)) (c .before .before .before .before .before .before .before .before .if2 .left)); measure-is = c .before .measure2 .ensures ∙ ap (unitsDef binary64) (c .before .before .before .before .before .before .before .before .before .before .before .before .before .f32-to-f64-with-nan2 .ensures) }) (c .before .before .before .before .if5 .left),
+  operand-ready (c .before .before .before .before .before .before .before .before .before .before .before .before .before .before .before .args .z) (c .measure3 .result) (record { held = fits-widens (c .before .before .before .before .before .before .before .before .before .before .before .before .before .before .before .args .z) (holds (c .before .before .before .before .before .before .before .before .before .before .before .before .before .before .before .good .1 .1 .0 .1)); finite-is = (yes (c .before .before .before .before .before .before .before .before .before .before .before .before .before .before .before .args .z) (c .before .before .before .before .before .before .before .is-finite3 .result) (c .before .before .before .before .before .before .before .is-finite3 .ensures ∙ ap finite (c .before .before .before .before .before .before .before .before .before .before .before .before .f32-to-f64-with-nan3 .ensures)) (c .before .before .before .before .before .before .if3 .left)); measure-is = c .measure3 .ensures ∙ ap (unitsDef binary64) (c .before .before .before .before .before .before .before .before .before .before .before .before .f32-to-f64-with-nan3 .ensures) }) (c .before .before .before .if6 .left),
+)
 
 squeeze-requires : tie.Need-squeeze-requires
 squeeze-requires c κs = search needs
@@ -81,15 +82,16 @@ add-place-f32 c = record { fits = wider _ (places-near (valueOf (c .before .befo
     wider p h = omega arith
 
 place-f32-requires : tie.Need-place-f32-requires
-place-f32-requires c κs = 
-    (digits-fit (valueOf (c .before .before .before .before .fused .result .whole)) (c .before .before .before .before .fused .result .sticky) (c .before .before .squeeze .result) (c .before .before .squeeze .ensures),
-    wider _ (places-near (valueOf (c .before .before .before .before .fused .result .whole)) (c .before .before .before .before .fused .result .sticky) (c .before .before .squeeze .result) (c .before .before .before .before .fused .result .places) (c .before .before .before .before .fused .ensures .short) (c .before .before .squeeze .ensures) (c .before .before .before .before .fused .ensures .near)))
+place-f32-requires c κs = (
+  digits-fit (valueOf (c .before .before .before .before .fused .result .whole)) (c .before .before .before .before .fused .result .sticky) (c .before .before .squeeze .result) (c .before .before .squeeze .ensures),
+  wider _ (places-near (valueOf (c .before .before .before .before .fused .result .whole)) (c .before .before .before .before .fused .result .sticky) (c .before .before .squeeze .result) (c .before .before .before .before .fused .result .places) (c .before .before .before .before .fused .ensures .short) (c .before .before .squeeze .ensures) (c .before .before .before .before .fused .ensures .near)),
+)
   where
     wider : (p : ℕ) → p < 2 ^ 14 → p < 2 ^ 63 + 2 ^ 12
     wider p h = omega arith
 
 returns-7 : tie.Need-returns-7
-returns-7 c = 
+returns-7 c =
     c .place-f32 .ensures
     ∙ fused-rounds binary32 (c .before .before .before .before .before .before .before .before .before .before .before .before .before .before .before .before .before .before .before .before .before .args .x) (c .before .before .before .before .before .before .before .before .before .before .before .before .before .before .before .before .before .before .before .before .before .args .y) (c .before .before .before .before .before .before .before .before .before .before .before .before .before .before .before .before .before .before .before .before .before .args .z) (c .before .before .before .before .before .before .before .before .measure .result) (c .before .before .before .before .before .before .before .measure2 .result) (c .before .before .before .before .before .before .measure3 .result)
     (record { held = fits-widens (c .before .before .before .before .before .before .before .before .before .before .before .before .before .before .before .before .before .before .before .before .before .args .x) (holds (c .before .before .before .before .before .before .before .before .before .before .before .before .before .before .before .before .before .before .before .before .before .good .0 .1)); finite-is = (yes (c .before .before .before .before .before .before .before .before .before .before .before .before .before .before .before .before .before .before .before .before .before .args .x) (c .before .before .before .before .before .before .before .before .before .before .before .before .before .before .before .before .before .is-finite .result) (c .before .before .before .before .before .before .before .before .before .before .before .before .before .before .before .before .before .is-finite .ensures ∙ ap finite (c .before .before .before .before .before .before .before .before .before .before .before .before .before .before .before .before .before .before .before .before .f32-to-f64-with-nan .ensures)) (c .before .before .before .before .before .before .before .before .before .before .before .before .before .before .before .before .if1 .left)); measure-is = c .before .before .before .before .before .before .before .before .measure .ensures ∙ ap (unitsDef binary64) (c .before .before .before .before .before .before .before .before .before .before .before .before .before .before .before .before .before .before .before .before .f32-to-f64-with-nan .ensures) })

@@ -55,10 +55,11 @@ measure-requires-3 c κs = holds (yes (c .before .before .before .before .before
 
 fused-requires : tie.Need-fused-requires
 unfolding ofBits
-fused-requires c κs = 
-    (operand-ready (c .before .before .before .before .before .before .before .before .before .before .before .before .args .x) (c .before .before .measure .result) (record { held = holds (c .before .before .before .before .before .before .before .before .before .before .before .before .good .0 .1); finite-is = (yes (c .before .before .before .before .before .before .before .before .before .before .before .before .args .x) (c .before .before .before .before .before .before .before .before .before .before .before .is-finite .result) (c .before .before .before .before .before .before .before .before .before .before .before .is-finite .ensures) (c .before .before .before .before .before .before .before .before .before .before .if1 .left)); measure-is = c .before .before .measure .ensures }) (c .before .before .before .before .before .if4 .left),
-    operand-ready (c .before .before .before .before .before .before .before .before .before .before .before .before .args .y) (c .before .measure2 .result) (record { held = holds (c .before .before .before .before .before .before .before .before .before .before .before .before .good .1 .0 .1); finite-is = (yes (c .before .before .before .before .before .before .before .before .before .before .before .before .args .y) (c .before .before .before .before .before .before .before .before .before .is-finite2 .result) (c .before .before .before .before .before .before .before .before .before .is-finite2 .ensures) (c .before .before .before .before .before .before .before .before .if2 .left)); measure-is = c .before .measure2 .ensures }) (c .before .before .before .before .if5 .left),
-    operand-ready (c .before .before .before .before .before .before .before .before .before .before .before .before .args .z) (c .measure3 .result) (record { held = holds (c .before .before .before .before .before .before .before .before .before .before .before .before .good .1 .1 .0 .1); finite-is = (yes (c .before .before .before .before .before .before .before .before .before .before .before .before .args .z) (c .before .before .before .before .before .before .before .is-finite3 .result) (c .before .before .before .before .before .before .before .is-finite3 .ensures) (c .before .before .before .before .before .before .if3 .left)); measure-is = c .measure3 .ensures }) (c .before .before .before .if6 .left))
+fused-requires c κs = (
+  operand-ready (c .before .before .before .before .before .before .before .before .before .before .before .before .args .x) (c .before .before .measure .result) (record { held = holds (c .before .before .before .before .before .before .before .before .before .before .before .before .good .0 .1); finite-is = (yes (c .before .before .before .before .before .before .before .before .before .before .before .before .args .x) (c .before .before .before .before .before .before .before .before .before .before .before .is-finite .result) (c .before .before .before .before .before .before .before .before .before .before .before .is-finite .ensures) (c .before .before .before .before .before .before .before .before .before .before .if1 .left)); measure-is = c .before .before .measure .ensures }) (c .before .before .before .before .before .if4 .left),
+  operand-ready (c .before .before .before .before .before .before .before .before .before .before .before .before .args .y) (c .before .measure2 .result) (record { held = holds (c .before .before .before .before .before .before .before .before .before .before .before .before .good .1 .0 .1); finite-is = (yes (c .before .before .before .before .before .before .before .before .before .before .before .before .args .y) (c .before .before .before .before .before .before .before .before .before .is-finite2 .result) (c .before .before .before .before .before .before .before .before .before .is-finite2 .ensures) (c .before .before .before .before .before .before .before .before .if2 .left)); measure-is = c .before .measure2 .ensures }) (c .before .before .before .before .if5 .left),
+  operand-ready (c .before .before .before .before .before .before .before .before .before .before .before .before .args .z) (c .measure3 .result) (record { held = holds (c .before .before .before .before .before .before .before .before .before .before .before .before .good .1 .1 .0 .1); finite-is = (yes (c .before .before .before .before .before .before .before .before .before .before .before .before .args .z) (c .before .before .before .before .before .before .before .is-finite3 .result) (c .before .before .before .before .before .before .before .is-finite3 .ensures) (c .before .before .before .before .before .before .if3 .left)); measure-is = c .measure3 .ensures }) (c .before .before .before .if6 .left),
+)
 
 squeeze-requires : tie.Need-squeeze-requires
 squeeze-requires c κs = search needs
@@ -70,15 +71,16 @@ add-place-f64 c = record { fits = wider _ (places-near (valueOf (c .before .befo
     wider p h = omega arith
 
 place-f64-requires : tie.Need-place-f64-requires
-place-f64-requires c κs = 
-    (digits-fit (valueOf (c .before .before .before .before .fused .result .whole)) (c .before .before .before .before .fused .result .sticky) (c .before .before .squeeze .result) (c .before .before .squeeze .ensures),
-    wider _ (places-near (valueOf (c .before .before .before .before .fused .result .whole)) (c .before .before .before .before .fused .result .sticky) (c .before .before .squeeze .result) (c .before .before .before .before .fused .result .places) (c .before .before .before .before .fused .ensures .short) (c .before .before .squeeze .ensures) (c .before .before .before .before .fused .ensures .near)))
+place-f64-requires c κs = (
+  digits-fit (valueOf (c .before .before .before .before .fused .result .whole)) (c .before .before .before .before .fused .result .sticky) (c .before .before .squeeze .result) (c .before .before .squeeze .ensures),
+  wider _ (places-near (valueOf (c .before .before .before .before .fused .result .whole)) (c .before .before .before .before .fused .result .sticky) (c .before .before .squeeze .result) (c .before .before .before .before .fused .result .places) (c .before .before .before .before .fused .ensures .short) (c .before .before .squeeze .ensures) (c .before .before .before .before .fused .ensures .near)),
+)
   where
     wider : (p : ℕ) → p < 2 ^ 14 → p < 2 ^ 63 + 2 ^ 12
     wider p h = omega arith
 
 returns-7 : tie.Need-returns-7
-returns-7 c = 
+returns-7 c =
     c .place-f64 .ensures
     ∙ fused-rounds binary64 (c .before .before .before .before .before .before .before .before .before .before .before .before .before .before .before .before .before .before .args .x) (c .before .before .before .before .before .before .before .before .before .before .before .before .before .before .before .before .before .before .args .y) (c .before .before .before .before .before .before .before .before .before .before .before .before .before .before .before .before .before .before .args .z) (c .before .before .before .before .before .before .before .before .measure .result) (c .before .before .before .before .before .before .before .measure2 .result) (c .before .before .before .before .before .before .measure3 .result)
     (record { held = holds (c .before .before .before .before .before .before .before .before .before .before .before .before .before .before .before .before .before .before .good .0 .1); finite-is = (yes (c .before .before .before .before .before .before .before .before .before .before .before .before .before .before .before .before .before .before .args .x) (c .before .before .before .before .before .before .before .before .before .before .before .before .before .before .before .before .before .is-finite .result) (c .before .before .before .before .before .before .before .before .before .before .before .before .before .before .before .before .before .is-finite .ensures) (c .before .before .before .before .before .before .before .before .before .before .before .before .before .before .before .before .if1 .left)); measure-is = c .before .before .before .before .before .before .before .before .measure .ensures })

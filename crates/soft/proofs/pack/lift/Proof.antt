@@ -35,11 +35,12 @@ lifted e s l h =
     let p : sum e ≡ pos n = ap (λ (z : ℤ). z +ℤ pos 2254) (word e s) ∙ b .1 in
     let f = small n (sum e) p (b .2) in
     let q : toZ w64 (ofZ w64 (sum e)) ≡ pos n = toZ-ofZ f ∙ p in
-    let g : n < 2 ^ 63 = b .2 in
-    (f,
+    let g : n < 2 ^ 63 = b .2 in (
+      f,
       subst (λ (z : ℤ). T (nonNeg z)) (sym q) tt,
       subst (λ (z : ℤ). Fits w64 (natAbs z)) (sym q) (record { fits = wider n g }),
-      subst (λ (z : ℤ). Counts e (natAbs z)) (sym q) (b .3))
+      subst (λ (z : ℤ). Counts e (natAbs z)) (sym q) (b .3),
+    )
   where
     wider : (n : ℕ) → n < 2 ^ 63 → n < 2 ^ 64
     wider n h = omega arith

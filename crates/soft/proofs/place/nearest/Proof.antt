@@ -2,16 +2,17 @@
 use Prim.Native.Nat.{ℕ, _-_, _*_, _/_, _%_, _^_, _≤_, _<_}
 use mathlib.Core.Path.{_≡_, sym, subst}
 use native.Mathlib.Omega.{arith}
-use native.Mathlib.Nat.{mod-lt}
+use native.Mathlib.Nat.{mod-lt, le-of-lt}
 use lib.Pow.{pow-pos}
 use borrow.Author.Needs.{needs}
-use Rattle.soft.proofs.place.Shift.{half-word, half-le, far, near}
+use Rattle.rounding.proofs.Basics.{half-word}
+use Rattle.soft.proofs.place.Shift.{half-le, far, near}
 use Rattle.soft.proofs.place.nearest.Statement.{statement}
 use Rattle.soft.proofs.place.nearest.Tie as tie
 
 -- what is added fits
 half-range : (d : ℕ) → d < 64 → (1 ≤ 1 * 2 ^ (d - 1) % 2 ^ 64) × (1 * 2 ^ (d - 1) % 2 ^ 64 ≤ 2 ^ 62)
-half-range d h = (subst (λ (x : ℕ). 1 ≤ x) (sym (half-word d h)) (pow-pos (d - 1)), subst (λ (x : ℕ). x ≤ 2 ^ 62) (sym (half-word d h)) (half-le d h))
+half-range d h = (subst (λ (x : ℕ). 1 ≤ x) (sym (half-word d (le-of-lt h))) (pow-pos (d - 1)), subst (λ (x : ℕ). x ≤ 2 ^ 62) (sym (half-word d (le-of-lt h))) (half-le d h))
 
 returns : tie.Need-returns
 returns c = far (c .before .args .v) (c .before .args .d) (c .before .pre .0) (c .if1 .taken)

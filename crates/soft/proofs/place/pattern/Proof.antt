@@ -37,7 +37,7 @@ mul-result : tie.Need-mul-result
 mul-result c = search needs
 
 returns-2 : tie.Need-returns-2
-returns-2 c = 
+returns-2 c =
     let s = c .before .before .before .before in
     let z = c .before .before .digits64 .ensures in
     let e : c .before .excess .result ≡ s .args .x + size (s .args .v) - s .args .t = c .before .excess .ensures ∙ ap (λ (y : ℕ). s .args .x + y - s .args .t) z in
@@ -57,7 +57,7 @@ sub-nearest-2 : tie.Need-sub-nearest-2
 sub-nearest-2 c = search needs
 
 nearest-requires : tie.Need-nearest-requires
-nearest-requires c κs = 
+nearest-requires c κs =
     let s = c .before .before .before .before in
     (subst (λ (y : ℕ). y < 2 ^ 63) (sym (moved (s .args .v) (c .before .before .digits64 .result) (s .pre .0) (c .before .before .digits64 .ensures))) (normalised-lt (s .args .v) (s .pre .0)), omega arith)
 
@@ -65,13 +65,15 @@ mul-least : tie.Need-mul-least
 mul-least c = search needs
 
 add-least : tie.Need-add-least
-add-least c = 
+add-least c =
     let s = c .before .before .before .before .before in
     let m = moved (s .args .v) (c .before .before .before .digits64 .result) (s .pre .0) (c .before .before .before .digits64 .ensures) in
     let n = normalised-lt (s .args .v) (s .pre .0) in
     let u = 2 ^ (s .args .g + c .before .before .excess .result - (s .args .x + c .before .before .before .digits64 .result)) in
-    record { fits = sum-fits (c .before .before .excess .result) (s .args .hid) (s .args .ones) (c .nearest .result) (normalised (s .args .v)) (c .before .if2 .left) (s .pre .4)
-      (subst (λ (y : ℕ). y ≤ normalised (s .args .v) + 1) (sym (c .nearest .ensures ∙ ap (λ (y : ℕ). closest y u) m)) (closest-le (normalised (s .args .v)) u)) n }
+    record {
+      fits = sum-fits (c .before .before .excess .result) (s .args .hid) (s .args .ones) (c .nearest .result) (normalised (s .args .v)) (c .before .if2 .left) (s .pre .4)
+          (subst (λ (y : ℕ). y ≤ normalised (s .args .v) + 1) (sym (c .nearest .ensures ∙ ap (λ (y : ℕ). closest y u) m)) (closest-le (normalised (s .args .v)) u)) n;
+    }
 
 mul-least-2 : tie.Need-mul-least-2
 mul-least-2 c = search needs
@@ -80,7 +82,7 @@ least-requires : tie.Need-least-requires
 least-requires c κs = search needs
 
 returns-3 : tie.Need-returns-3
-returns-3 c = 
+returns-3 c =
     let s = c .before .before .before .before .before .before in
     let z = c .before .before .before .before .digits64 .ensures in
     let k = c .before .before .before .excess .ensures in

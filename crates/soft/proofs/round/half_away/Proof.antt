@@ -1,19 +1,17 @@
 -- `round::half_away` meets its contract: d = 1074 - places is the place of the point, and the shift by d is the quotient (Half). Assumes nothing.
 use mathlib.Core.Path.{_≡_, sym, ap, _∙_}
 use Prim.Native.Nat.{ℕ, _+_, _-_, _*_, _/_, _%_, _^_, _≤_, _<_}
-use native.Mathlib.Nat.{one-mul, lt-of-lt-of-le}
+use native.Mathlib.Nat.{le-trans, lt-of-lt-of-le}
 use native.Mathlib.Omega.{arith}
-use lib.Dec.{lit<}
-use lib.Pow.{pow-mono, shl-exact}
+use lib.Dec.{lit≤}
+use lib.Pow.{pow-mono}
 use borrow.Author.Needs.{needs}
+use Rattle.rounding.proofs.Basics.{half-word}
 use Rattle.soft.proofs.round.Half.{by-shift, vanishes}
 use Rattle.soft.proofs.round.half_away.Statement.{statement}
 use Rattle.soft.proofs.round.half_away.Tie as tie
 
 -- the word that the code adds
-half-word : (d : ℕ) → d ≤ 54 → 1 * 2 ^ (d - 1) % 2 ^ 64 ≡ 2 ^ (d - 1)
-half-word d h = shl-exact {a = 1} 1 (d - 1) 64 (lit< tt) (omega arith) ∙ one-mul (2 ^ (d - 1))
-
 half-le : (d : ℕ) → d ≤ 54 → 2 ^ (d - 1) ≤ 2 ^ 53
 half-le d h = pow-mono {i = d - 1} {j = 53} (omega arith)
 
@@ -38,7 +36,7 @@ add-result : tie.Need-add-result
 add-result c =
     let d = 1074 - c .before .args .places in
     let l = half-le d (c .if1 .left) in
-    rw (half-word d (c .if1 .left)) (record { fits = omega arith })
+    rw (half-word d (le-trans (c .if1 .left) (lit≤ tt))) (record { fits = omega arith })
 
 shr-result : tie.Need-shr-result
 shr-result c = search needs
@@ -47,7 +45,7 @@ returns-2 : tie.Need-returns-2
 returns-2 c =
     let a = c .before .args in
     let d = 1074 - a .places in
-    ap (λ (x : ℕ). (a .digits + x) / 2 ^ d) (half-word d (c .if1 .left)) ∙ sym (by-shift (a .digits) (a .places) 1074 (c .before .pre .1))
+    ap (λ (x : ℕ). (a .digits + x) / 2 ^ d) (half-word d (le-trans (c .if1 .left) (lit≤ tt))) ∙ sym (by-shift (a .digits) (a .places) 1074 (c .before .pre .1))
 
 pub half-away-spec : {M : Type 1} → statement M
 half-away-spec = tie.close (tie.spec sub-d returns sub-half shl-half add-result shr-result returns-2)
