@@ -1,2 +1,2 @@
 -- What the proofs of `decode` share.
-mod Kind
+pub mod Kind

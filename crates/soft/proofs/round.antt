@@ -1,2 +1,2 @@
 -- What the proofs of `round` share.
-mod Half
+pub mod Half

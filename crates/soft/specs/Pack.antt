@@ -8,3 +8,7 @@ use lib.Ieee.{Float, Format, up, down, round}
 -- where q has more digits than the format keeps. 2 ^ e is up e / down e.
 unfoldable pub packDef : Format → Bool → ℕ → Bool → ℤ → Float
 packDef f s q sticky e = round f s ((q * 2 + cond sticky 1 0) * up e) (down e * 2)
+
+-- with no sticky bit, for a number of any size
+unfoldable pub packWideDef : Format → Bool → ℕ → ℤ → Float
+packWideDef f s w e = round f s (w * up e) (down e)

@@ -3,7 +3,7 @@ ghost use mathlib.Core.Path.{_≡_};
 ghost use Prim.Native.Nat.{_*_, _<_, _^_};
 ghost use lib.Ieee.{binary32, binary64};
 ghost use Rattle.soft.specs.Parts.{decodeDef, partsDef, without};
-use crate::units::split;
+use crate::fields::split;
 
 // As Rust's FpCategory.
 pub enum Class {

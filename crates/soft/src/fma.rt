@@ -5,16 +5,15 @@ ghost use lib.Ieee as Ieee;
 ghost use lib.Ieee.{binary32, binary64};
 ghost use Rattle.wide.specs.Value.{valueOf};
 ghost use Rattle.soft.specs.Fma.{fmaDef};
-ghost use Rattle.soft.specs.Steps.{Ready, Full, Merged, squeezeDef};
+ghost use Rattle.soft.specs.Steps.{Ready, Full, Merged};
 use crate::flags::bit;
 use crate::flags::both;
-use crate::flags::either;
 use crate::flags::unlike;
 use crate::pack::Scaled;
-use crate::place::excess;
 use crate::place::least;
 use crate::place::place_f32;
 use crate::place::place_f64;
+use crate::squeeze::squeeze;
 use crate::units::Units;
 use crate::units::is_finite;
 use crate::units::measure;
@@ -104,19 +103,6 @@ fn fused(x: Units, y: Units, z: Units) -> Sum
         return merge(sp, p, sq, q, pe - qe, pe);
     }
     merge(sq, q, sp, p, qe - pe, qe)
-}
-
-// The first 62 digits, and the sticky bit after them.
-fn squeeze(w: Wide, sticky: bool) -> Scaled
-    ensures { λ r. ⌜ r ≡ squeezeDef (valueOf w) sticky ⌝ }
-{
-    let n = excess(wide::digits(w), 62);
-    let q = wide::shr(w, n);
-    let rest = either(sticky, wide::lost(w, n));
-    Scaled {
-        digits: q.low * 2 + bit(rest),
-        places: n,
-    }
 }
 
 pub fn fma_f64(x: f64, y: f64, z: f64) -> f64

@@ -3,10 +3,12 @@
 // fused multiply-add. Each contract equates the answer to a definition of specs/, and none asks
 // anything of its caller.
 pub mod decode;
+mod fields;
 mod flags;
 pub mod fma;
 pub mod narrow;
 pub mod pack;
 mod place;
 pub mod round;
-mod units;
+mod squeeze;
+pub mod units;

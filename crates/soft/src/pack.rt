@@ -5,12 +5,15 @@ ghost use lib.Ieee.{binary32, binary64, up, down};
 ghost use lib.Dec.{T};
 ghost use lib.IntN.{negsuc};
 ghost use lib.Signed.{leZ};
-ghost use Rattle.soft.specs.Pack.{packDef};
+ghost use Rattle.wide.specs.Value.{valueOf};
+ghost use Rattle.soft.specs.Pack.{packDef, packWideDef};
 ghost use Rattle.soft.specs.Steps.{foldDef};
 use crate::flags::bit;
 use crate::flags::either;
 use crate::place::place_f32;
 use crate::place::place_f64;
+use crate::squeeze::squeeze;
+use wide::Wide;
 
 // A number of at most 63 digits, and a power of two to go with it.
 pub struct Scaled {
@@ -64,4 +67,25 @@ pub fn pack_f32(negative: bool, q: u64, sticky: bool, e: i64) -> f32
     }
     let w = fold(q, sticky);
     place_f32(negative, w.digits, lift(e) + w.places)
+}
+
+// The nearest to ± w * 2^e, for a w of two words.
+pub fn pack_wide_f64(negative: bool, w: Wide, e: i64) -> f64
+    ensures { λ r. ⌜ r ≡ packWideDef binary64 negative (valueOf w) e ⌝ }
+{
+    if e < -2254 {
+        return place_f64(negative, 0, 0);
+    }
+    let t = squeeze(w, false);
+    place_f64(negative, t.digits, lift(e) + t.places)
+}
+
+pub fn pack_wide_f32(negative: bool, w: Wide, e: i64) -> f32
+    ensures { λ r. ⌜ r ≡ packWideDef binary32 negative (valueOf w) e ⌝ }
+{
+    if e < -2254 {
+        return place_f32(negative, 0, 0);
+    }
+    let u = squeeze(w, false);
+    place_f32(negative, u.digits, lift(e) + u.places)
 }

@@ -17,7 +17,8 @@ use Rattle.soft.specs.Fma.{fmaDef}
 use Rattle.soft.specs.Steps.{Ready, Merged, squeezeDef}
 use Rattle.soft.specs.Units.{unitsDef}
 use Rattle.soft.proofs.units.Value.{holds}
-use Rattle.soft.proofs.fma.Exactly.{ready, sizeOf, signOf, exact-sum, squeezed, squeezed-lt, squeezed-near}
+use Rattle.soft.proofs.fma.Exactly.{ready, sizeOf, signOf, exact-sum}
+use Rattle.soft.proofs.squeeze.Digits.{squeezed}
 use Rattle.soft.proofs.fma.Special.{zero-float}
 
 -- ---- a negated test, on a flag r that says whether x is finite
@@ -52,13 +53,3 @@ module _ (f : Format) (x y z : Float) (a b c : Units) (oa : Operand x a) (ob : O
   fused-rounds =
       ap (λ (w : Scaled). round f (s .negative) (w .digits * 2 ^ (s .places + w .places)) (2 ^ 2255)) q
       ∙ sym (exact ∙ squeezed f (s .negative) (sumSize (unlike (a .negative) (b .negative)) (a .digits * 2 ^ a .places * (b .digits * 2 ^ b .places) * 2 ^ 106) (c .negative) (c .digits * 2 ^ c .places * 2 ^ 1180)) (valueOf (s .whole)) (s .places) (s .sticky) (m .cut))
-
--- ---- what `place` asks
-pub digits-fit : (w : ℕ) (t : Bool) (v : Scaled) → v ≡ squeezeDef w t → v .digits < 2 ^ 63
-digits-fit w t v q = subst (λ (x : Scaled). x .digits < 2 ^ 63) (sym q) (squeezed-lt w t)
-
-pub places-near : (w : ℕ) (t : Bool) (v : Scaled) (p : ℕ) → w < 2 ^ 128 → v ≡ squeezeDef w t → p < 2 ^ 13 → p + v .places < 2 ^ 14
-places-near w t v p h q g = near p (v .places) g (subst (λ (x : Scaled). x .places ≤ 66) (sym q) (squeezed-near w t h))
-  where
-    near : (p n : ℕ) → p < 2 ^ 13 → n ≤ 66 → p + n < 2 ^ 14
-    near p n a b = omega arith

@@ -16,8 +16,9 @@ use lib.Ieee.Scale.{round-same}
 use Rattle.rounding.proofs.Basics.{pos-of, not-eqb}
 use Rattle.rounding.proofs.Sticky.{Cut, cut-rounds, keeps}
 use Rattle.rounding.proofs.Tiny.{tiny}
-use Rattle.soft.specs.Pack.{packDef}
-use Rattle.soft.specs.Steps.{foldDef, pickScaled}
+use Rattle.soft.specs.Pack.{packDef, packWideDef}
+use Rattle.soft.specs.Steps.{foldDef, pickScaled, squeezeDef}
+use Rattle.soft.proofs.squeeze.Digits.{squeezed}
 use Rattle.soft.proofs.pack.Exponent.{Counts}
 
 -- ---- the exponent, counted from 2 ^ -2254
@@ -146,3 +147,27 @@ far-below f s q t (negsuc a) h l =
 
     reach : (l a : ℕ) → l ≤ 1074 → 2253 < a → 2 ^ 66 * 2 ^ l * 2 ≤ 2 ^ suc a * 2
     reach l a x y = mul-le-mul-right 2 (le-trans (le-of-eq (sym (pow-add 2 66 l))) (pow-mono {i = 66 + l} {j = suc a} (omega arith)))
+
+-- ---- a number of two words, with nothing below it
+pub wide-packed : (f : Format) (s : Bool) (w : ℕ) (e : ℤ) (n : ℕ) → Counts e n → packWideDef f s w e ≡ round f s (squeezeDef w false .digits * 2 ^ (n + squeezeDef w false .places)) (2 ^ 2255)
+unfolding packWideDef
+wide-packed f s w e n h =
+    round-same f s (w * up e) (down e) (w * 2 ^ n) (2 ^ 2254) (down-pos e) (pow-pos 2254) (turn w (up e) (2 ^ 2254) (2 ^ n) (down e) (h .0))
+    ∙ squeezed f s (w * 2 ^ n) w n false refl
+  where
+    turn : (w u k n d : ℕ) → u * k ≡ n * d → w * u * k ≡ w * n * d
+    turn w u k n d e = mul-assoc w u k ∙ ap (λ (x : ℕ). w * x) e ∙ sym (mul-assoc w n d)
+
+pub wide-far-below : (f : Format) (s : Bool) (w : ℕ) (e : ℤ) → w < 2 ^ 128 → ltZ e (negsuc 2253) ≡ true → packWideDef f s w e ≡ round f s (0 * 2 ^ 0) (2 ^ 2255)
+unfolding packWideDef
+wide-far-below f s w (pos a) h l = absurd (false≢true l)
+wide-far-below f s w (negsuc a) h l =
+    tiny f s (w * 1) (2 ^ suc a)
+    (lt-of-lt-of-le (half (w * 1 * 2 ^ low f) (2 ^ 128 * 2 ^ low f) (mul-lt-mul-of-pos-right (subst (λ (x : ℕ). x < 2 ^ 128) (sym (mul-one w)) h) (pow-pos (low f)))) (reach (low f) a (low-le f) (ltb-true 2253 a l)))
+    ∙ round-same f s 0 1 (0 * 1) (2 ^ 2255) (lit≤ tt) (pow-pos 2255) (zero-mul (2 ^ 2255) ∙ sym (zero-mul 1))
+  where
+    half : (x y : ℕ) → x < y → x * 2 < y * 2
+    half x y l = omega arith
+
+    reach : (l a : ℕ) → l ≤ 1074 → 2253 < a → 2 ^ 128 * 2 ^ l * 2 ≤ 2 ^ suc a
+    reach l a x y = le-trans (le-of-eq (ap (λ (x : ℕ). x * 2) (sym (pow-add 2 128 l)) ∙ sym (pow-add 2 (128 + l) 1))) (pow-mono {i = 128 + l + 1} {j = suc a} (omega arith))

@@ -9,7 +9,8 @@ use lib.Ieee.Scale.{finite}
 use borrow.Author.Needs.{needs}
 use Rattle.wide.specs.Value.{valueOf}
 use Rattle.soft.proofs.units.Value.{holds}
-use Rattle.soft.proofs.fma.Whole.{yes, no, Operand, operand-ready, fused-rounds, digits-fit, places-near}
+use Rattle.soft.proofs.fma.Whole.{yes, no, Operand, operand-ready, fused-rounds}
+use Rattle.soft.proofs.squeeze.Digits.{digits-fit, places-near}
 use Rattle.soft.proofs.fma.Special.{endless-left, endless-right, endless-third, zero-left, zero-right, zero-third}
 use Rattle.soft.proofs.fma.fma_f64.Statement.{statement}
 use Rattle.soft.proofs.fma.fma_f64.Tie as tie
@@ -45,13 +46,13 @@ unfolding ofBits
 returns-6 c = zero-third binary64 (c .before .before .before .before .before .before .before .before .before .args .x) (c .before .before .before .before .before .before .before .before .before .args .y) (c .before .before .before .before .before .before .before .before .before .args .z) (yes (c .before .before .before .before .before .before .before .before .before .args .x) (c .before .before .before .before .before .before .before .before .is-finite .result) (c .before .before .before .before .before .before .before .before .is-finite .ensures) (c .before .before .before .before .before .before .before .if1 .left)) (yes (c .before .before .before .before .before .before .before .before .before .args .y) (c .before .before .before .before .before .before .is-finite2 .result) (c .before .before .before .before .before .before .is-finite2 .ensures) (c .before .before .before .before .before .if2 .left)) (yes (c .before .before .before .before .before .before .before .before .before .args .z) (c .before .before .before .before .is-finite3 .result) (c .before .before .before .before .is-finite3 .ensures) (c .before .before .before .if3 .left)) (c .before .before .if4 .left) (c .before .if5 .left) (c .if6 .taken)
 
 measure-requires : tie.Need-measure-requires
-measure-requires c κs = holds (yes (c .before .before .before .before .before .before .before .before .before .args .x) (c .before .before .before .before .before .before .before .before .is-finite .result) (c .before .before .before .before .before .before .before .before .is-finite .ensures) (c .before .before .before .before .before .before .before .if1 .left))
+measure-requires c κs = search needs
 
 measure-requires-2 : tie.Need-measure-requires-2
-measure-requires-2 c κs = holds (yes (c .before .before .before .before .before .before .before .before .before .before .args .y) (c .before .before .before .before .before .before .before .is-finite2 .result) (c .before .before .before .before .before .before .before .is-finite2 .ensures) (c .before .before .before .before .before .before .if2 .left))
+measure-requires-2 c κs = search needs
 
 measure-requires-3 : tie.Need-measure-requires-3
-measure-requires-3 c κs = holds (yes (c .before .before .before .before .before .before .before .before .before .before .before .args .z) (c .before .before .before .before .before .before .is-finite3 .result) (c .before .before .before .before .before .before .is-finite3 .ensures) (c .before .before .before .before .before .if3 .left))
+measure-requires-3 c κs = search needs
 
 fused-requires : tie.Need-fused-requires
 unfolding ofBits

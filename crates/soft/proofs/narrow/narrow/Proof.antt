@@ -67,7 +67,7 @@ is-finite-requires : tie.Need-is-finite-requires
 is-finite-requires c κs = search needs
 
 measure-requires : tie.Need-measure-requires
-measure-requires c κs = holds (sym (c .before .is-finite .ensures) ∙ c .if1 .taken)
+measure-requires c κs = search needs
 
 add-place-f32 : tie.Need-add-place-f32
 add-place-f32 c =

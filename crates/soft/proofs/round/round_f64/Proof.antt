@@ -14,7 +14,7 @@ is-finite-requires : tie.Need-is-finite-requires
 is-finite-requires c κs = search needs
 
 measure-requires : tie.Need-measure-requires
-measure-requires c κs = holds (sym (c .before .is-finite .ensures) ∙ c .if1 .taken)
+measure-requires c κs = search needs
 
 half-away-requires : tie.Need-half-away-requires
 half-away-requires c κs =

@@ -1,11 +1,11 @@
--- `units::split` meets its contract: the two arms of its test are the two of `splitDef`. Assumes nothing.
+-- `fields::split` meets its contract: the two arms of its test are the two of `splitDef`. Assumes nothing.
 use native.Mathlib.Nat.{mod-lt}
 use native.Mathlib.Omega.{arith}
 use borrow.Author.Needs.{needs}
 use borrow.Author.Tests.{ne-eqb}
 use Rattle.soft.specs.Units.{splitDef}
-use Rattle.soft.proofs.units.split.Statement.{statement}
-use Rattle.soft.proofs.units.split.Tie as tie
+use Rattle.soft.proofs.fields.split.Statement.{statement}
+use Rattle.soft.proofs.fields.split.Tie as tie
 
 rem-field : tie.Need-rem-field
 rem-field c = search needs

@@ -1,4 +1,4 @@
--- `soft::fma::squeeze` meets its contract: the lower word holds the first 62 digits. Assumes nothing.
+-- `soft::squeeze::squeeze` meets its contract: the lower word holds the first 62 digits. Assumes nothing.
 use Prim.Native.Nat.{ℕ, _+_, _-_, _*_, _/_, _%_, _^_, _≤_, _<_}
 use mathlib.Core.Path.{_≡_, refl, sym, ap, ap₂, _∙_, subst}
 use mathlib.Core.Bool.{Bool, true, false, not, _||_, cond}
@@ -13,8 +13,8 @@ use Rattle.wide.specs.Value.{valueOf}
 use Rattle.wide.proofs.Laws.{low-is}
 use Rattle.soft.specs.declared.pack.Scaled.{Scaled}
 use Rattle.soft.specs.Steps.{squeezeDef}
-use Rattle.soft.proofs.fma.squeeze.Statement.{statement}
-use Rattle.soft.proofs.fma.squeeze.Tie as tie
+use Rattle.soft.proofs.squeeze.squeeze.Statement.{statement}
+use Rattle.soft.proofs.squeeze.squeeze.Tie as tie
 
 -- the shift, from what the calls ensure
 places : (v z n : ℕ) → z ≡ size v → n ≡ z - 62 → n ≡ size v - 62

@@ -1,0 +1,62 @@
+-- `soft::pack::pack_wide_f32` meets its contract: far below the format it is a zero, and elsewhere what `place` rounds of the first digits. Assumes nothing.
+use Prim.Native.Nat.{ℕ, _+_, _*_, _^_, _≤_, _<_}
+use mathlib.Core.Path.{_≡_, sym, ap, _∙_, subst}
+use mathlib.Core.Bool.{Bool, true, false}
+use native.Mathlib.Omega.{arith}
+use lib.IntN.{ℤ, negsuc}
+use lib.Signed.{ltZ}
+use lib.Ieee.{binary32, round}
+use mir.Facts.{toZ-ofZ}
+use borrow.Author.Needs.{needs}
+use Rattle.wide.specs.declared.Wide.{Wide}
+use Rattle.wide.specs.Value.{valueOf}
+use Rattle.wide.proofs.Laws.{below}
+use Rattle.soft.specs.declared.pack.Scaled.{Scaled}
+use Rattle.soft.proofs.squeeze.Digits.{digits-fit, squeezed-near}
+use Rattle.soft.proofs.pack.Exponent.{Counts, in-reach, word, wide-fits, wide-near}
+use Rattle.soft.proofs.pack.Packed.{wide-packed, wide-far-below}
+use Rattle.soft.proofs.pack.pack_wide_f32.Statement.{statement}
+use Rattle.soft.proofs.pack.pack_wide_f32.Tie as tie
+
+place-f32-requires : tie.Need-place-f32-requires
+place-f32-requires c κs = search needs
+
+returns : tie.Need-returns
+returns c =
+    let a = c .before .before .args in
+    c .place-f32 .ensures ∙ sym (wide-far-below binary32 (a .negative) (valueOf (a .w)) (a .e) (below (c .before .before .args .w) (omega arith) (omega arith)) (word (a .e) (c .before .before .fits .e) (λ (z : ℤ). ltZ z (negsuc 2253)) true (c .before .if1 .taken)))
+
+squeeze-requires : tie.Need-squeeze-requires
+squeeze-requires c κs = search needs
+
+lift-requires : tie.Need-lift-requires
+lift-requires c κs = in-reach (c .before .before .args .e) (c .before .before .fits .e) (c .before .if1 .left)
+
+add-place-f32 : tie.Need-add-place-f32
+add-place-f32 c = record { fits = wide-fits (c .before .lift .result) (c .before .before .squeeze .result .places) (c .before .lift .ensures .1) (subst (λ (v : Scaled). v .places ≤ 66) (sym (c .before .before .squeeze .ensures)) (squeezed-near (valueOf (c .before .before .before .before .args .w)) false (below (c .before .before .before .before .args .w) (omega arith) (omega arith)))) }
+
+place-f32-requires-2 : tie.Need-place-f32-requires-2
+place-f32-requires-2 c κs = (
+  digits-fit (valueOf (c .before .before .before .before .args .w)) false (c .before .before .squeeze .result) (c .before .before .squeeze .ensures),
+  wide-near (c .before .lift .result) (c .before .before .squeeze .result .places) (c .before .lift .ensures .1) (subst (λ (v : Scaled). v .places ≤ 66) (sym (c .before .before .squeeze .ensures)) (squeezed-near (valueOf (c .before .before .before .before .args .w)) false (below (c .before .before .before .before .args .w) (omega arith) (omega arith)))),
+)
+
+returns-2 : tie.Need-returns-2
+returns-2 c =
+    let a = c .before .before .before .before .before .args in
+    c .place-f322 .ensures
+    ∙ ap (λ (v : Scaled). round binary32 (a .negative) (v .digits * 2 ^ (c .before .before .lift .result + v .places)) (2 ^ 2255)) (c .before .before .before .squeeze .ensures)
+    ∙ sym (wide-packed binary32 (a .negative) (valueOf (a .w)) (a .e) (c .before .before .lift .result)
+    (subst (λ (z : ℤ). Counts z (c .before .before .lift .result)) (toZ-ofZ (c .before .before .before .before .before .fits .e)) (c .before .before .lift .ensures)))
+
+pub pack-wide-f32-spec : {M : Type 1} → statement M
+pack-wide-f32-spec =
+    tie.close
+    (tie.spec
+    place-f32-requires
+    returns
+    squeeze-requires
+    lift-requires
+    add-place-f32
+    place-f32-requires-2
+    returns-2)

@@ -1,0 +1,22 @@
+// A number of two words cut to one.
+ghost use mathlib.Core.Path.{_≡_};
+ghost use Rattle.wide.specs.Value.{valueOf};
+ghost use Rattle.soft.specs.Steps.{squeezeDef};
+use crate::flags::bit;
+use crate::flags::either;
+use crate::pack::Scaled;
+use crate::place::excess;
+use wide::Wide;
+
+// The first 62 digits, and the sticky bit after them.
+pub fn squeeze(w: Wide, sticky: bool) -> Scaled
+    ensures { λ r. ⌜ r ≡ squeezeDef (valueOf w) sticky ⌝ }
+{
+    let n = excess(wide::digits(w), 62);
+    let q = wide::shr(w, n);
+    let rest = either(sticky, wide::lost(w, n));
+    Scaled {
+        digits: q.low * 2 + bit(rest),
+        places: n,
+    }
+}
