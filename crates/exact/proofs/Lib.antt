@@ -1,0 +1,13 @@
+-- Polynomials with natural coefficients at fractions, and what P does at sums, at L's series and at ln's.
+pub mod Poly
+pub mod Laws
+pub mod Two
+pub mod Cap
+pub mod Fix
+pub mod Fixed
+pub mod Terms
+pub mod Sums
+pub mod Series
+pub mod Below
+pub mod Frac
+pub mod Chain

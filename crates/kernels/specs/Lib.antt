@@ -1,0 +1,4 @@
+pub mod Core
+pub mod Kernels
+pub mod PowerSteps
+pub mod LogSteps

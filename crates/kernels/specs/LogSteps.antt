@@ -1,0 +1,1 @@
+-- What the steps inside ln and pow compute: no reader of a public contract needs these. Assumes nothing.

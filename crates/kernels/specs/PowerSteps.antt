@@ -1,0 +1,1 @@
+-- What the steps inside exp compute: no reader of a public contract needs these. Assumes nothing.
