@@ -1,49 +1,73 @@
--- C: P(l(g)) against 1 / (1 - g), for l(g) = g + g^2/2 + .. + g^8/8 and 0 ≤ g ≤ 1/256
-use mathlib.Core.Path.{_≡_, _∙_, subst, sym, refl}
-use mathlib.Core.Bool.{Bool, true, false, _&&_}
+-- P(l(g)) against 1 / (1 - g), for l(g) = g + g^2/2 + .. + g^n/n and 0 ≤ g ≤ 7/2560. Single results take five terms, double ones eight. Assumes nothing.
+use mathlib.Core.Path.{_≡_}
 use mathlib.Core.List.{List, [], _∷_}
-use Prim.Native.Nat.{ℕ, zero, suc, _+_, _*_, _^_, _≤_, _<_}
-use native.Mathlib.Omega.{arith}
-use lib.Dec.{T, leb, ltb, leb→le, lit<}
+use Prim.Native.Nat.{ℕ, suc, _+_, _*_, _^_, _≤_}
+use lib.Dec.{T, lit<}
+use lib.Ieee.{Format, binary32, binary64}
 use Rattle.exact.proofs.Poly.{h, add, axpy, mul, comp}
-use Rattle.exact.proofs.Laws.{sub, fits, h-two, h-const, h-comp, fits-comp}
+use Rattle.exact.proofs.Laws.{sub, fits, h-const, h-comp, fits-comp}
 use Rattle.exact.proofs.Fix.{fix-test, fix-up, fix-down}
-use Rattle.exact.proofs.Terms.{pcoef}
+use Rattle.exact.proofs.Terms.{pcoef, f23}
 
-unfoldable pub lcoef : List ℕ
-lcoef = 0 ∷ 840 ∷ 420 ∷ 280 ∷ 210 ∷ 168 ∷ 140 ∷ 120 ∷ 105 ∷ []
+-- n - 1, the degree of l(g) / g
+abbrev pub deg : Format → ℕ
+deg binary32 = 4
+deg binary64 = 7
 
-abbrev pub dL : ℕ
-dL = 840
+-- a common multiple of 1..n, and the coefficients of l(g) / g over it
+abbrev pub dL : Format → ℕ
+dL binary32 = 60
+dL binary64 = 840
 
-unfoldable pub uL : ℕ
-uL = 25852016738884976640000 * dL ^ 23
+unfoldable pub tcoef : Format → List ℕ
+tcoef binary32 = 60 ∷ 30 ∷ 20 ∷ 15 ∷ 12 ∷ []
+tcoef binary64 = 840 ∷ 420 ∷ 280 ∷ 210 ∷ 168 ∷ 140 ∷ 120 ∷ 105 ∷ []
 
-pub pl : List ℕ
-pl = comp 23 pcoef dL lcoef
+abbrev pub lcoef : Format → List ℕ
+lcoef f = 0 ∷ tcoef f
 
-passes : T (fix-test 184 (uL ∷ []) 1 256 (2 ^ 200) (2 ^ 75) uL pl)
-unfolding fix-test uL pl pcoef lcoef comp axpy mul add sub h
-passes = tt
+-- P(l(g)) (1 - g) is at most 1 / less f below 1
+abbrev pub less : Format → ℕ
+less binary32 = 25 * 2 ^ 49
+less binary64 = 2 ^ 79
 
-fits-l : T (fits 8 lcoef)
-unfolding lcoef
-fits-l = tt
+unfoldable pub uL : Format → ℕ
+unfolding f23
+uL f = f23 * dL f ^ 23
 
--- U b ^ 184 P(l(a / b))
-abbrev pub pL : ℕ → ℕ → ℕ
-pL a b = h 23 pcoef (h 8 lcoef a b) (dL * b ^ 8)
+pub pl : Format → List ℕ
+pl f = comp 23 pcoef (dL f) (lcoef f)
 
-pl-is : (a b : ℕ) → pL a b ≡ h 184 pl a b
+passes : (f : Format) → T (fix-test (23 * suc (deg f)) (uL f ∷ []) 7 2560 (2 ^ 200) (less f) (uL f) (pl f))
+unfolding fix-test uL f23 pl pcoef tcoef comp axpy mul add sub h
+passes binary32 = tt
+passes binary64 = tt
+
+fits-l : (f : Format) → T (fits (suc (deg f)) (lcoef f))
+unfolding tcoef
+fits-l binary32 = tt
+fits-l binary64 = tt
+
+-- uL f * b ^ (23 n) times P(l(a / b))
+abbrev pub pL : Format → ℕ → ℕ → ℕ
+pL f a b = h 23 pcoef (h (suc (deg f)) (lcoef f) a b) (dL f * b ^ suc (deg f))
+
+pl-is : (f : Format) (a b : ℕ) → pL f a b ≡ h (23 * suc (deg f)) (pl f) a b
 unfolding pl
-pl-is a b = h-comp 23 8 pcoef dL lcoef a b fits-l
+pl-is f a b = h-comp 23 (suc (deg f)) pcoef (dL f) (lcoef f) a b (fits-l f)
 
-fits-pl : T (fits 184 pl)
+fits-pl : (f : Format) → T (fits (23 * suc (deg f)) (pl f))
 unfolding pl
-fits-pl = fits-comp 23 8 pcoef dL lcoef fits-l
+fits-pl f = fits-comp 23 (suc (deg f)) pcoef (dL f) (lcoef f) (fits-l f)
 
-pub upper : (a b : ℕ) → a * 256 ≤ 1 * b → b * pL a b * 2 ^ 200 ≤ (uL * b ^ 185 + a * pL a b) * 2 ^ 200 + uL * b ^ 185
-upper a b l = rw (h-const 185 uL a b, ← pl-is a b) at (fix-up 184 (uL ∷ []) 1 256 (2 ^ 200) (2 ^ 75) uL (lit< tt) pl fits-pl passes a b l)
+pub upper : (f : Format) (a b : ℕ) → a * 2560 ≤ 7 * b
+    → b * pL f a b * 2 ^ 200 ≤ (uL f * b ^ suc (23 * suc (deg f)) + a * pL f a b) * 2 ^ 200 + uL f * b ^ suc (23 * suc (deg f))
+upper f a b l =
+    rw (h-const (suc (23 * suc (deg f))) (uL f) a b, ← pl-is f a b) at
+    (fix-up (23 * suc (deg f)) (uL f ∷ []) 7 2560 (2 ^ 200) (less f) (uL f) (lit< tt) (pl f) (fits-pl f) (passes f) a b l)
 
-pub lower : (a b : ℕ) → a * 256 ≤ 1 * b → (uL * b ^ 185 + a * pL a b) * 2 ^ 75 ≤ b * pL a b * 2 ^ 75 + uL * b ^ 185
-lower a b l = rw (h-const 185 uL a b, ← pl-is a b) at (fix-down 184 (uL ∷ []) 1 256 (2 ^ 200) (2 ^ 75) uL (lit< tt) pl fits-pl passes a b l)
+pub lower : (f : Format) (a b : ℕ) → a * 2560 ≤ 7 * b
+    → (uL f * b ^ suc (23 * suc (deg f)) + a * pL f a b) * less f ≤ b * pL f a b * less f + uL f * b ^ suc (23 * suc (deg f))
+lower f a b l =
+    rw (h-const (suc (23 * suc (deg f))) (uL f) a b, ← pl-is f a b) at
+    (fix-down (23 * suc (deg f)) (uL f ∷ []) 7 2560 (2 ^ 200) (less f) (uL f) (lit< tt) (pl f) (fits-pl f) (passes f) a b l)

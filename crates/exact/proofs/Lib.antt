@@ -6,8 +6,11 @@ pub mod Cap
 pub mod Fix
 pub mod Fixed
 pub mod Terms
+pub mod Taylor
 pub mod Sums
+pub mod Near
 pub mod Series
+pub mod Odds
 pub mod Below
 pub mod Frac
 pub mod Chain

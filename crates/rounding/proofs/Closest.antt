@@ -59,3 +59,18 @@ pub too-small : (a u : ℕ) → a * 2 < u → closest a u ≡ 0
 too-small a u h =
     ap (λ (x : ℕ). nearest x (compare (a % u * 2) u)) (div-eq-of-lt (half-below a u h)) ∙ ap (λ (x : ℕ). nearest 0 (compare (x * 2) u)) (mod-eq-of-lt (half-below a u h))
     ∙ ap (nearest 0) (is-lt (compare (a * 2) u) (a * 2) u (cmp (a * 2) u) h)
+
+-- ---- twice the distance is at most the divisor
+near-go : (o : Ordering) (w r u : ℕ) → Cmp o (r * 2) u → r < u → (nearest w o * u * 2 ≤ (w * u + r) * 2 + u) × ((w * u + r) * 2 ≤ nearest w o * u * 2 + u)
+near-go Ordering·lt w r u c h = (omega arith, omega arith)
+near-go Ordering·eq w r u c h = go (w % 2) (omega arith)
+  where
+    go : (b : ℕ) → b < 2 → ((w + b) * u * 2 ≤ (w * u + r) * 2 + u) × ((w * u + r) * 2 ≤ (w + b) * u * 2 + u)
+    go zero l = (omega arith, omega arith)
+    go (suc zero) l = (omega arith, omega arith)
+    go (suc (suc b)) l = absurd (omega arith)
+near-go Ordering·gt w r u c h = (omega arith, omega arith)
+
+pub closest-near : (a u : ℕ) → 0 < u → (closest a u * u * 2 ≤ a * 2 + u) × (a * 2 ≤ closest a u * u * 2 + u)
+closest-near a u h =
+    subst (λ (x : ℕ). (closest a u * u * 2 ≤ x * 2 + u) × (x * 2 ≤ closest a u * u * 2 + u)) (div-add-mod' a u) (near-go (compare (a % u * 2) u) (a / u) (a % u) u (cmp (a % u * 2) u) (mod-lt a h))

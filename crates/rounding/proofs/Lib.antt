@@ -6,3 +6,4 @@ pub mod Place
 pub mod Sticky
 pub mod Tiny
 pub mod Sum
+pub mod Relative

@@ -7,10 +7,12 @@ use Prim.Native.Nat.{ℕ, zero, suc, _+_, _-_, _*_, _/_, _%_, _^_, _≤_, _<_, m
 use native.Mathlib.Nat.{le-refl, zero-add, add-zero, add-comm, le-trans, le-of-eq, lt-of-le-of-lt, lt-of-lt-of-le, eq-or-lt-of-le, eq-zero-or-pos, mul-assoc, mul-comm, mul-left-comm, mul-le-mul-right, mul-lt-mul-of-pos-right, mul-pos, mul-div-mul-right, le-div-iff-mul-le, div-lt-iff-lt-mul, zero-mul, mul-one}
 use native.Mathlib.Omega.{arith}
 use lib.Dec.{eqb, lit≤, eqb·suc-zero}
+use lib.IntN.{pos}
 use lib.Pow.{pow-pos, pow-add, pow-mono, shl-lt}
-use lib.Ieee.{Float, fin, Format, binary32, binary64, prec, emax, low, hid, ones, top, size, round, ofBits}
+use lib.Ieee.{Float, fin, Format, binary32, binary64, prec, emax, low, hid, ones, top, size, units, round, ofBits}
 use lib.Ieee.Digits.{size-lt, size-le, size-reaches}
-use lib.Ieee.Fits.{two, nearest-le}
+use lib.Ieee.Exact.{HasValue, units-val}
+use lib.Ieee.Fits.{two, nearest-le, core, round-is}
 use lib.Ieee.Nearest.{closest, closest-same, nearest-ge}
 use lib.Ieee.Scale.{round-same}
 use Rattle.rounding.proofs.Pattern.{Kept, exactly, pow-lt-back, round-pattern}
@@ -97,6 +99,16 @@ module _ (f : Format) (g t v x : ℕ) (r : Range f g t) (lo : 2 ^ 62 ≤ v) (hi 
   pub placed : (s : Bool) → ofBits f (cond s (top f) 0 + min ((x - t) * hid f + closest v (2 ^ d)) (ones f * hid f)) ≡ round f s (v * 2 ^ x) (2 ^ (low f + g))
   placed s = round-pattern f s (v * 2 ^ x) (2 ^ (low f + g)) (x - t) (closest v (2 ^ d)) drop-is kept-is kept
 
+  -- its value, where it stays below the format's end
+  pub placed-value : (s : Bool) → closest v (2 ^ d) * 2 ^ (x - t) < 2 ^ (low f + suc (emax f)) → HasValue (round f s (v * 2 ^ x) (2 ^ (low f + g))) s (closest v (2 ^ d) * 2 ^ (x - t)) (2 ^ low f)
+  placed-value s h =
+      subst (λ (y : Float). HasValue y s (closest v (2 ^ d) * 2 ^ (x - t)) (2 ^ low f))
+      (sym (round-is f s (v * 2 ^ x) (2 ^ (low f + g)) ∙ ap (λ (j : ℕ). core f s (v * 2 ^ x * 2 ^ low f) (2 ^ (low f + g)) j) drop-is ∙ ap (λ (y : ℕ). units f s y (x - t)) kept-is))
+      (units-val f s (closest v (2 ^ d)) (x - t) h)
+
+  pub kept-le : closest v (2 ^ d) ≤ 2 ^ prec f
+  kept-le = q-le
+
 -- ---- any number of at most 63 digits: it is first moved up to 63
 abbrev pub normalised : ℕ → ℕ
 normalised v = v * 2 ^ (63 - size v)
@@ -145,6 +157,16 @@ zero-bits binary64 false = refl
 
 pub round-zero : (f : Format) (s : Bool) (b : ℕ) → 0 < b → ofBits f (cond s (top f) 0 + 0) ≡ round f s 0 b
 round-zero f s b h = sym (round-same f s 0 b 0 1 h (lit≤ tt) (zero-mul 1 ∙ sym (zero-mul b)) ∙ zero-bits f s)
+
+none-is : (f : Format) (s : Bool) → round f s 0 1 ≡ fin s 0 (pos 0)
+unfolding round
+none-is binary32 true = refl
+none-is binary32 false = refl
+none-is binary64 true = refl
+none-is binary64 false = refl
+
+pub round-none : (f : Format) (s : Bool) (b : ℕ) → 0 < b → round f s 0 b ≡ fin s 0 (pos 0)
+round-none f s b h = round-same f s 0 b 0 1 h (lit≤ tt) (zero-mul 1 ∙ sym (zero-mul b)) ∙ none-is f s
 
 pub place : (f : Format) (s : Bool) (g t w v x : ℕ) → Range f g t → v < 2 ^ 63 → w + 63 ≡ low f + g
     → ofBits f (cond s (top f) 0 + placedBits g t (hid f) (ones f) v x) ≡ round f s (v * 2 ^ x) (2 ^ w)

@@ -1,0 +1,1 @@
+-- exp's special values. Assumes nothing.

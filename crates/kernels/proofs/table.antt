@@ -1,0 +1,3 @@
+-- The table of fractional powers, entry for entry.
+pub mod Every
+pub mod Entries

@@ -1,0 +1,7 @@
+-- Why the promises hold.
+pub mod Finish
+pub mod Cores
+pub mod Exp
+pub mod Ln
+pub mod Pow
+pub mod Refusals

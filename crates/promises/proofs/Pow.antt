@@ -1,0 +1,131 @@
+-- pow within document 01's distance of E(y L(x)): the argument is y times a logarithm that is itself a little off. Assumes nothing.
+use mathlib.Core.Path.{_≡_, refl, sym, ap, _∙_, subst}
+use mathlib.Core.Bool.{Bool, true, false, _&&_, _||_, cond}
+use mathlib.Core.Logic.{_⊎_, inl, inr}
+use Prim.Native.Nat.{ℕ, zero, suc, _+_, _-_, _*_, _/_, _%_, _^_, _≤_, _<_}
+use native.Mathlib.Nat.{le-trans, le-of-eq, le-of-lt, zero-lt-suc, mul-assoc, mul-comm, mul-left-comm, mul-one, add-mul, mul-pos, mul-le-mul-left, mul-le-mul-right, le-of-mul-le-mul-right, div-mul-le-self, lt-div-mul-add}
+use native.Mathlib.Omega.{arith}
+use lib.Dec.{T, ltb, eqb, ltb→lt, eqb→eq, lit<, lit≤}
+use lib.IntN.{ℤ, pos}
+use lib.Ieee.{Float, nan, inf, fin, Format, binary32, binary64, prec, up, down, unlike, fits, le}
+use lib.Ieee.Bits.{is-true}
+use lib.Ieee.Fits.{down-pos}
+use Rattle.exact.specs.Exact.{Frac, E, L}
+use Rattle.kernels.specs.Core.{logarithm}
+use Rattle.kernels.specs.Kernels.{fromPower, cut, powered, powDef}
+use Rattle.promises.specs.Kernels.{Near, PowNear, argument, powerBits, reach}
+use Rattle.promises.proofs.Cores.{PowerNear, MantissaIn, LogNear, LogarithmNear, slack, error}
+use Rattle.promises.proofs.Exp.{power-near}
+use Rattle.promises.proofs.Ln.{digits-below}
+
+ruleset ac = (mul-assoc, mul-comm, mul-left-comm)
+
+-- 16 times the logarithm's error, and the cut
+slack-is : (f : Format) → 16 * error f + 1 ≤ slack f
+slack-is binary32 = lit≤ tt
+slack-is binary64 = lit≤ tt
+
+slack-small : (f : Format) → slack f ≤ 2 ^ 26
+slack-small binary32 = lit≤ tt
+slack-small binary64 = lit≤ tt
+
+-- |y| ≤ 16
+left-of : (a b : Bool) → T (a && b) → T a
+left-of true b t = tt
+left-of false b t = t
+
+right-of : (a b : Bool) → T (a && b) → T b
+right-of true b t = t
+right-of false b t = absurd t
+
+either : (a b : Bool) → T (a || b) → T a ⊎ T b
+either true b t = inl t
+either false b t = inr t
+
+-- below 16, or equal to it
+at-most : (x b : ℕ) (c : Bool) → T (ltb x b || (eqb x b && c)) → x ≤ b
+at-most x b c t = elim (either (ltb x b) (eqb x b && c) t) [ inl l ↦ le-of-lt (ltb→lt x b l) | inr e ↦ le-of-eq (eqb→eq x b (left-of (eqb x b) c e)) ]
+
+reads : (n : ℕ) (d : ℤ) → n * up d * 1 ≤ 1 * 16 * down d → n * up d ≤ 16 * down d
+reads n d h = le-trans (le-of-eq (sym (mul-one (n * up d)))) h
+
+pub bounded : (t : Bool) (n : ℕ) (d : ℤ) → T (powered (fin t n d)) → n * up d ≤ 16 * down d
+unfolding le
+bounded true n d h = reads n d (flip (n * up d * 1) (1 * 16 * down d) (left-of (le (fin true 1 (pos 4)) (fin true n d)) (le (fin true n d) (fin false 1 (pos 4))) h))
+  where
+    flip : (x b : ℕ) → T (ltb x b || (eqb b x && true)) → x ≤ b
+    flip x b t = elim (either (ltb x b) (eqb b x && true) t) [ inl l ↦ le-of-lt (ltb→lt x b l) | inr e ↦ le-of-eq (sym (eqb→eq b x (left-of (eqb b x) true e))) ]
+bounded false n d h = reads n d (at-most (n * up d * 1) (1 * 16 * down d) true (right-of (le (fin true 1 (pos 4)) (fin false n d)) (le (fin false n d) (fin false 1 (pos 4))) h))
+
+-- numbers alone: y = x / b ≤ 16, the logarithm g against v / w
+module _ (x b g v w δ σ : ℕ) (zb : 0 < b) (y : x ≤ 16 * b) (room : 16 * δ + 1 ≤ σ) where
+  spare : x * (δ * w) + b * w ≤ σ * (b * w)
+  spare = le-trans (sum (x * (δ * w)) (b * w) (16 * b * (δ * w)) (mul-le-mul-right (δ * w) y)) (le-trans (le-of-eq (turn b δ w)) (mul-le-mul-right (b * w) room))
+    where
+      sum : (a c d : ℕ) → a ≤ d → a + c ≤ d + c
+      sum a c d h = omega arith
+      turn : (b δ w : ℕ) → 16 * b * (δ * w) + b * w ≡ (16 * δ + 1) * (b * w)
+      turn b δ w = omega arith
+
+  pub hi : (t : ℕ) → g * w ≤ v * t + δ * w → x * g / b * (b * w) ≤ x * v * t + σ * (b * w)
+  hi t h =
+      le-trans (le-of-eq (sym (mul-assoc (x * g / b) b w))) (le-trans (mul-le-mul-right w (div-mul-le-self (x * g) b)) (le-trans (le-of-eq (mul-assoc x g w)) (le-trans (mul-le-mul-left x h) (le-trans (le-of-eq (spread x v t δ w)) (tail (x * v * t) (x * (δ * w)) (b * w) (σ * (b * w)) spare)))))
+    where
+      spread : (x v t δ w : ℕ) → x * (v * t + δ * w) ≡ x * v * t + x * (δ * w)
+      spread x v t δ w = omega arith
+      tail : (a c d s : ℕ) → c + d ≤ s → a + c ≤ a + s
+      tail a c d s h = omega arith
+
+  pub lo : (t : ℕ) → v * t ≤ (g + δ) * w → x * v * t ≤ (x * g / b + σ) * (b * w)
+  lo t h =
+      le-trans (le-of-eq (mul-assoc x v t)) (le-trans (mul-le-mul-left x h) (le-trans (le-of-eq (spread x g δ w)) (le-trans (sum (x * g * w) (x * (δ * w)) ((x * g / b + 1) * (b * w)) (le-trans (mul-le-mul-right w (le-of-lt (lt-div-mul-add {a = x * g} zb))) (le-of-eq (turn (x * g / b) b w))))
+      (le-trans (le-of-eq (join (x * g / b) (b * w) (x * (δ * w)))) (le-trans (last (x * g / b * (b * w)) (x * (δ * w) + b * w) (σ * (b * w)) spare) (le-of-eq (sym (add-mul (x * g / b) σ (b * w)))))))))
+    where
+      spread : (x g δ w : ℕ) → x * ((g + δ) * w) ≡ x * g * w + x * (δ * w)
+      spread x g δ w = omega arith
+      turn : (q b w : ℕ) → (q * b + b) * w ≡ (q + 1) * (b * w)
+      turn q b w = omega arith
+      sum : (a c d : ℕ) → a ≤ d → a + c ≤ d + c
+      sum a c d h = omega arith
+      join : (q z c : ℕ) → (q + 1) * z + c ≡ q * z + (c + z)
+      join q z c = omega arith
+      last : (a c s : ℕ) → c ≤ s → a + c ≤ a + s
+      last a c s h = omega arith
+
+-- within reach, whatever the slack
+reaches : (q z a r t σ : ℕ) → 0 < z → q * z ≤ a * t + σ * z → a ≤ r * z → σ ≤ 2 ^ 26 → q ≤ r * t + 2 ^ 26
+reaches q z a r t σ h k l c =
+    le-trans (le-of-mul-le-mul-right {k = z} (le-trans k (le-trans (sum (a * t) (σ * z) (r * z * t) (mul-le-mul-right t l)) (le-of-eq (turn r z t σ)))) h) (more (r * t) σ c)
+  where
+    sum : (a c d : ℕ) → a ≤ d → a + c ≤ d + c
+    sum a c d h = omega arith
+    turn : (r z t σ : ℕ) → r * z * t + σ * z ≡ (r * t + σ) * z
+    turn r z t σ = omega arith
+    more : (a σ : ℕ) → σ ≤ 2 ^ 26 → a + σ ≤ a + 2 ^ 26
+    more a σ h = omega arith
+
+-- in its domain pow is fromPower of y times the logarithm
+pub in-domain : (f : Format) (m : ℕ) (e : ℤ) (t : Bool) (n : ℕ) (d : ℤ) → T (powered (fin t n d))
+    → powDef f (fin false (suc m) e) (fin t n d) ≡ fromPower f (unlike (logarithm f (suc m) e .negative) t) (cut n d (logarithm f (suc m) e .mag))
+unfolding powDef
+in-domain f m e t n d h =
+    ap (λ (b : Bool). cond b (fromPower f (unlike (logarithm f (suc m) e .negative) t) (cut n d (logarithm f (suc m) e .mag))) nan) (is-true (powered (fin t n d)) h)
+
+pub pow-near : (f : Format) → PowerNear f → MantissaIn f → LogarithmNear f → PowNear f
+pow-near f core mant near m e t n d k l p r = at (near (suc m) e (zero-lt-suc m) (digits-below f m e k))
+  where
+    at : LogNear f (suc m) e → Near (powerBits f) (powDef f (fin false (suc m) e) (fin t n d))
+        (E (unlike (L (suc m) e .negative) t) (argument n d (L (suc m) e .size) .num) (argument n d (L (suc m) e .size) .den))
+    at a =
+        let g = logarithm f (suc m) e .mag in
+        let v = L (suc m) e .size .num in
+        let w = L (suc m) e .size .den in
+        let x = n * up d in
+        let b = down d in
+        let z = mul-pos (down-pos d) (a .den-pos) in
+        let above = hi x b g v w (error f) (slack f) (down-pos d) (bounded t n d p) (slack-is f) (2 ^ 72) (a .above) in
+        let under = lo x b g v w (error f) (slack f) (down-pos d) (bounded t n d p) (slack-is f) (2 ^ 72) (a .below) in
+        subst (λ (y : Float). Near (powerBits f) y (E (unlike (L (suc m) e .negative) t) (x * v) (b * w))) (sym (in-domain f m e t n d p))
+        (subst (λ (s : Bool). Near (powerBits f) (fromPower f (unlike (logarithm f (suc m) e .negative) t) (cut n d g)) (E (unlike s t) (x * v) (b * w))) (a .sign)
+        (power-near f core mant (unlike (logarithm f (suc m) e .negative) t) (x * v) (b * w) (cut n d g) z
+        (reaches (cut n d g) (b * w) (x * v) (reach f) (2 ^ 72) (slack f) z above r (slack-small f)) under above))

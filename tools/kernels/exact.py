@@ -1,0 +1,555 @@
+#!/usr/bin/env python3
+"""Holds the answers of the kernels to their definition and to document 01, outside the prover.
+
+    tools/kernels/exact.py [-n POINTS] [-s SEED] [--] HOST...   checks the answers of the program HOST (host.c)
+    tools/kernels/exact.py [-n POINTS] [-s SEED]                judges the definition itself by document 01
+    tools/kernels/exact.py table                                prints the 256 entries, one to a line
+
+Everything here is whole numbers; no float is ever computed with. A float is a pattern of bits, read by its
+fields. Three parts:
+
+1. The definition, from crates/kernels/specs/{Core,Kernels}.antt and, for fma and round, crates/soft/specs.
+   Every answer must have its bits (a NaN equals any NaN).
+2. Document 01's exact values P, E and L and its rules about them. L is worked out as one fraction. E is
+   enclosed between two numbers of 256 digits after the point, every step cut the safe way; a distance that
+   the enclosure cannot decide is decided by the exact fraction.
+3. The arguments: edges and the neighbourhoods where a case changes, and pseudo-random ones (random.Random(SEED),
+   only its getrandbits). POINTS is about how many of the latter each kernel gets.
+
+It prints what was checked, what was violated, and the worst error as a part of what is allowed. Request K4's
+tighter distances are printed for information and never count as violations. Status 1 if anything is wrong.
+"""
+import random
+import subprocess
+import sys
+from bisect import bisect_left
+from fractions import Fraction
+from math import factorial, lcm
+
+N = 0xB17217F7D1CF79AB
+NAN = "nan"
+
+
+class Format:
+    def __init__(self, name, width, prec, emax):
+        self.name, self.width, self.prec, self.emax = name, width, prec, emax
+        self.low = emax + prec - 2  # 2 ^ -low is the smallest positive value
+        self.hid = 1 << (prec - 1)
+        self.top = 1 << (width - 1)
+        self.ones = 2 * emax + 1
+        self.inf = self.ones * self.hid
+        self.one = emax * self.hid
+
+    def of_bits(self, b):
+        """nan, ('inf', negative) or (negative, m, e) for ±m * 2 ^ e"""
+        s, x, t = b >= self.top, b % self.top // self.hid, b % self.hid
+        if x == self.ones:
+            return NAN if t else ("inf", s)
+        return (s, t, -self.low) if x == 0 else (s, self.hid + t, x - 1 - self.low)
+
+    def to_bits(self, v):
+        """of what `nearest` gives: a NaN stays the word nan"""
+        if v == NAN:
+            return NAN
+        if v[0] == "inf":
+            return v[1] * self.top + self.inf
+        s, m, e = v
+        n = m << (e + self.low)  # in units of the smallest value
+        k = max(0, n.bit_length() - self.prec)
+        return s * self.top + k * self.hid + (n >> k)
+
+    def nearest(self, s, num, den):
+        """lib.Ieee's round: the float nearest to ±num / den, ties to even, an infinity from 2 ^ (emax + 1) on"""
+        n = num << self.low
+        k = max(0, (n // den).bit_length() - self.prec)
+        q, r = divmod(n, den << k)
+        q += 2 * r > den << k or (2 * r == den << k and q % 2 == 1)
+        return ("inf", s) if q << k >= 1 << (self.low + self.emax + 1) else (s, q << k, -self.low)
+
+
+SINGLE = Format("f32", 32, 24, 127)
+DOUBLE = Format("f64", 64, 53, 1023)
+
+
+def scaled(m, e, w):
+    """m * 2 ^ e * w, cut to a whole number"""
+    return m * w << e if e >= 0 else m * w >> -e
+
+
+# ---- 1. the definition: Core.antt
+def taylor(a, b):
+    """P(a / b) as num, den"""
+    num = 0
+    for j in range(24):
+        num += factorial(23) // factorial(j) * a**j * b ** (23 - j)
+    return num, factorial(23) * b**23
+
+
+def entry(i):
+    num, den = taylor(i * N, 2**72)
+    return 2**62 * num // den
+
+
+TABLE = [entry(i) for i in range(256)] + [2**63]
+UPS = {f: [2 ** (71 - 8 * j) // factorial(j) for j in range(1, n + 1)] for f, n in ((SINGLE, 3), (DOUBLE, 6))}
+DOWNS = {f: [2**63 // j for j in range(1, n + 1)] for f, n in ((SINGLE, 5), (DOUBLE, 8))}
+BIAS = 2**19 * N
+
+
+def high(a, b):
+    return a * b // 2**64
+
+
+def horner(cs, x):
+    p = 0
+    for c in reversed(cs):
+        p = c + high(x, p)
+    return p
+
+
+def mantissa(f, i, s):
+    return TABLE[i] + TABLE[i] * high(s, horner(UPS[f], s)) // 2**71
+
+
+def logarithm(f, m, e):
+    """negative and magnitude, in units of 2 ^ -72, for m * 2 ^ e"""
+    big = m << (63 - m.bit_length())
+    k = e + m.bit_length() - 1
+    i = bisect_left(TABLE, big)  # the first entry that is big or more
+    g = max(0, 2**64 - big * TABLE[256 - i] // 2**61)
+    low = g * horner(DOWNS[f], g) // 2**63
+    if k >= 0:
+        return False, max(0, (256 * k + i) * N - 256 * low)
+    return True, (-256 * k - i) * N + 256 * low
+
+
+# ---- Kernels.antt
+def from_power(f, neg, mag):
+    if mag >= 2**82:
+        return (False, 0, 0) if neg else ("inf", False)
+    j, s = divmod(BIAS - mag if neg else BIAS + mag, N)
+    k, i = divmod(j, 256)
+    if k + f.emax < 2049:
+        return False, 0, 0
+    if k > 2048 + f.emax:
+        return "inf", False
+    return f.nearest(False, mantissa(f, i, s) << k, 1 << 2110)
+
+
+def finite(v):
+    return v != NAN and v[0] != "inf"
+
+
+def positive(v):
+    return finite(v) and not v[0] and v[1] > 0
+
+
+def powered(v):
+    """from -16 to 16"""
+    return finite(v) and v[2] <= 0 and v[1] <= 16 << -v[2]
+
+
+def exp_def(f, x):
+    return from_power(f, x[0], scaled(x[1], x[2], 2**72)) if finite(x) else NAN
+
+
+def ln_def(f, x):
+    if not positive(x):
+        return NAN
+    neg, mag = logarithm(f, x[1], x[2])
+    return f.nearest(neg, mag, 2**72)
+
+
+def pow_def(f, x, y):
+    if not (positive(x) and powered(y)):
+        return NAN
+    neg, mag = logarithm(f, x[1], x[2])
+    return from_power(f, neg != y[0], scaled(y[1], y[2], mag))
+
+
+# ---- HalfAway.antt and Fma.antt
+def round_def(f, x):
+    if not finite(x):
+        return x
+    s, m, e = x
+    return f.nearest(s, m << e if e >= 0 else (2 * m + (1 << -e)) >> (1 - e), 1)
+
+
+def fma_def(f, x, y, z):
+    if NAN in (x, y, z):
+        return NAN
+    if not (finite(x) and finite(y)):
+        if any(finite(v) and v[1] == 0 for v in (x, y)):
+            return NAN
+        s = (x[1] if x[0] == "inf" else x[0]) != (y[1] if y[0] == "inf" else y[0])
+        return NAN if not finite(z) and z[1] != s else ("inf", s)
+    if not finite(z):
+        return z
+    s, e = x[0] != y[0], min(x[2] + y[2], z[2])
+    a = (-1 if s else 1) * (x[1] * y[1] << (x[2] + y[2] - e))
+    b = (-1 if z[0] else 1) * (z[1] << (z[2] - e))
+    neg = a + b < 0 or (a + b == 0 and s and z[0])
+    return f.nearest(neg, scaled(abs(a + b), max(e, 0), 1), 1 << max(-e, 0))
+
+
+# ---- 2. document 01's exact values
+DIGITS = 256
+UNIT = 1 << DIGITS
+
+
+def split(num, den):
+    """k, and the fraction r = A - k N / 2 ^ 64, for A = num / den"""
+    k = num * 2**64 // (den * N)
+    return k, num * 2**64 - k * N * den, den * 2**64
+
+
+def E_between(num, den):
+    """k, lo and hi: E(num / den) is 2 ^ k p with lo <= p * 2 ^ DIGITS <= hi"""
+    k, a, b = split(num, den)
+    r = (a << DIGITS) // b
+    lo = hi = UNIT
+    for j in range(23, 0, -1):  # 1 + r / 1 (1 + r / 2 (1 + ..)): growing in r, and a quotient of quotients cuts once
+        lo = UNIT + (r * lo >> DIGITS) // j
+        hi = UNIT + ((r + 1) * hi >> DIGITS) // j + 1
+    return k, lo, hi
+
+
+def E_exact(num, den):
+    k, a, b = split(num, den)
+    p, q = taylor(a, b)
+    return Fraction(p << max(k, 0), q << max(-k, 0))
+
+
+ODDS = lcm(*range(1, 48, 2))
+
+
+def L(m, e):
+    """num, den of L(m * 2 ^ e)"""
+    h = 1 << (m.bit_length() - 1)
+    k = e + m.bit_length() - 1
+    if m == h:
+        return k * N, 2**64
+    low = (m & -m).bit_length() - 1
+    m, h = m >> low, h >> low
+    a2, b2 = (m - h) ** 2, (m + h) ** 2
+    acc, bs = 0, 1
+    for j in range(23, -1, -1):
+        acc = acc * a2 + ODDS // (2 * j + 1) * bs
+        bs *= b2
+    s, d = 2 * (m - h) * acc, ODDS * (m + h) * (bs // b2)
+    return k * N * d + 2**64 * s, 2**64 * d
+
+
+# ---- document 01's rules
+LIMITS = {SINGLE: (86, 89, 23), DOUBLE: (700, 710, 44)}  # near, far, and the distance 2 ^ -p E
+LOGS = {SINGLE: (23, 48), DOUBLE: (50, 48)}  # 2 ^ -p |L| + 2 ^ -q
+MILLION = 10**6
+
+
+class Tally:
+    """of each rule: how often it was asked, how often violated, the worst error in millionths of the allowed"""
+
+    def __init__(self):
+        self.rules, self.shown = {}, 0
+
+    def note(self, rule, ok, part=None, what=()):
+        row = self.rules.setdefault(rule, [0, 0, -1])
+        row[0] += 1
+        row[1] += not ok
+        row[2] = max(row[2], -1 if part is None else part)
+        if not ok and not rule.startswith("K4") and self.shown < 5:
+            self.shown += 1
+            print(f"    violated: {rule}: {' '.join(what)}")
+
+    def show(self):
+        for rule, (asked, bad, worst) in self.rules.items():
+            part = f", worst {worst // MILLION}.{worst % MILLION:06d} of the allowed" if worst >= 0 else ""
+            print(f"    {rule:48s} {asked:7d} asked, {bad} violated{part}")
+        return sum(bad for rule, (_, bad, _) in self.rules.items() if not rule.startswith("K4"))
+
+
+def near(v, num, den, p):
+    """whether v lies within 2 ^ -p E of E(num / den), and the error in millionths of that"""
+    k, lo, hi = E_between(num, den)
+    if not finite(v) or v[0] or v[2] - k + DIGITS < 0:
+        return False, 10**9
+    y = v[1] << (v[2] - k + DIGITS)
+    most = max(abs(y - lo), abs(y - hi)) << p
+    least = max(y - hi, lo - y, 0) << p
+    if (most <= lo) != (least <= hi):  # the enclosure cannot tell
+        e = E_exact(num, den) * Fraction(1 << DIGITS) / Fraction(2) ** k
+        return abs(y - e) * 2**p <= e, most * MILLION // lo
+    return most <= lo, most * MILLION // lo
+
+
+def near_log(v, num, den, p, q):
+    """whether v lies within 2 ^ -p |L| + 2 ^ -q of L = num / den"""
+    if not finite(v):
+        return False, 10**9
+    up, down = max(v[2], 0), max(-v[2], 0)
+    error = abs((-1 if v[0] else 1) * (v[1] << up) * den - (num << down)) << (p + q)
+    allowed = ((abs(num) << q) + (den << p)) << down
+    return error <= allowed, error * MILLION // allowed
+
+
+def judge_power(f, t, v, num, den, what):
+    """the rules of exp and pow for A = num / den"""
+    close, far, p = LIMITS[f]
+    if abs(num) <= close * den:
+        t.note(f"|A| <= {close}: within 2^-{p} E", *near(v, num, den, p), what)
+    elif num >= far * den:
+        t.note(f"A >= {far}: +infinity", v == ("inf", False), None, what)
+    elif num <= -far * den:
+        t.note(f"A <= -{far}: +0", finite(v) and v[:2] == (False, 0), None, what)
+    else:
+        t.note("in between: +0, a number or +infinity", v == ("inf", False) or (finite(v) and not v[0]), None, what)
+    if f is DOUBLE and abs(num) <= 32 * den:
+        t.note("K4: |A| <= 32: within 2^-50 E", *near(v, num, den, 50))
+
+
+def is_one(f, v):
+    return f.to_bits(v) == f.one
+
+
+def fraction(v):
+    """±m * 2 ^ e as num, den"""
+    return (-1 if v[0] else 1) * v[1] << max(v[2], 0), 1 << max(-v[2], 0)
+
+
+def judge_exp(f, t, v, what, x):
+    t.note("refused exactly where x is not finite", (v == NAN) != finite(x), None, what)
+    if not finite(x):
+        return
+    if x[1] == 0:
+        t.note("exp(+-0) = 1", is_one(f, v), None, what)
+    judge_power(f, t, v, *fraction(x), what)
+
+
+def judge_ln(f, t, v, what, x):
+    t.note("refused exactly where x is not positive, finite", (v == NAN) != positive(x), None, what)
+    if not positive(x):
+        return
+    num, den = L(x[1], x[2])
+    if num == 0:
+        t.note("ln 1 = +0", f.to_bits(v) == 0, None, what)
+    p, q = LOGS[f]
+    t.note(f"within 2^-{p} |L| + 2^-{q}", *near_log(v, num, den, p, q), what)
+    if f is DOUBLE:
+        t.note("K4: within 2^-52 |L| + 2^-60", *near_log(v, num, den, 52, 60))
+
+
+def judge_pow(f, t, v, what, x, y):
+    inside = positive(x) and powered(y)
+    t.note("refused exactly outside the domain", (v == NAN) != inside, None, what)
+    if not inside:
+        return
+    num, den = L(x[1], x[2])
+    ny, dy = fraction(y)
+    if num == 0:
+        t.note("pow(1, y) = 1", is_one(f, v), None, what)
+    if ny == 0:
+        t.note("pow(x, +-0) = 1", is_one(f, v), None, what)
+    if num >= 0 and ny <= 0:
+        small = finite(v) and not v[0] and scaled(v[1], v[2], UNIT**5) <= UNIT**5
+        t.note("x >= 1, y <= 0: never above 1", small, None, what)
+    judge_power(f, t, v, num * ny, den * dy, what)
+
+
+def judge_nothing(f, t, v, what, *xs):
+    """fma and round: their definition is the rule"""
+
+
+# ---- 3. the arguments
+class Source:
+    def __init__(self, f, seed, n):
+        self.f, self.n, self.rnd = f, n, random.Random(f"{seed} {f.name}")
+        h, i = f.hid, f.inf
+        subnormals = [1, 2, 3, h // 2, h - 2, h - 1]
+        self.positives = subnormals + [h, h + 1, i - 2, i - 1] + [f.one + d for d in range(-4, 5)]
+        self.odd = [0, f.top, i, f.top + i, i + 1, i + h // 2, f.top + i + h // 2, f.top + i + h - 1]
+        self.edges = self.odd + self.positives + [f.top + b for b in self.positives]
+
+    def below(self, n):
+        return self.rnd.getrandbits(80) % n
+
+    def bits(self, s, num, den):
+        return self.f.to_bits(self.f.nearest(s, num, den))
+
+    def around(self, num, den, w):
+        """the patterns up to w steps from the one nearest to num / den"""
+        b = self.bits(False, abs(num), den)
+        return [(num < 0) * self.f.top + c for c in range(max(0, b - w), min(self.f.inf, b + w) + 1)]
+
+    def uniform(self, low, high):
+        num = (low << 90) + self.rnd.getrandbits(90) * (high - low)
+        return self.bits(num < 0, abs(num), 1 << 90)
+
+    def scatter(self, low, high, s=None):
+        """any digits, with an exponent from low to high"""
+        s = self.rnd.getrandbits(1) if s is None else s
+        e = max(0, min(self.f.ones - 1, self.f.emax + low + self.below(high - low + 1)))
+        return s * self.f.top + e * self.f.hid + self.rnd.getrandbits(self.f.prec - 1)
+
+    def any(self):
+        return self.rnd.getrandbits(self.f.width)
+
+    def exps(self):
+        f, n = self.f, self.n
+        xs = list(self.edges)
+        for c in (1, 16, 32, 86, 87, 88, 89, 103, 104, 128, 700, 708, 709, 710, 744, 745, 1023, 1024, 1025, 2048):
+            for s in (-1, 1):
+                xs += self.around(s * c, 1, 4)
+                xs += [self.uniform(s * c - 1, s * c + 1) for _ in range(8)]
+        far = f.emax + 40
+        for k in range(-far, far + 1):  # where k changes, and beyond both ends
+            xs += self.around(k * N, 2**64, 1)
+        for _ in range(n // 4):  # where the table's entry changes
+            xs += self.around((self.below(512 * f.emax) - 256 * f.emax) * N, 2**72, 1)
+        close = LIMITS[f][0]
+        xs += [self.uniform(-close, close) for _ in range(n)] + [self.uniform(-4, 4) for _ in range(n // 2)]
+        xs += [self.scatter(-80, 7) for _ in range(n // 2)] + [self.any() for _ in range(n // 4)]
+        return [(x,) for x in xs]
+
+    def logs(self):
+        f, n = self.f, self.n
+        xs = list(self.edges) + [e * f.hid for e in range(f.ones + 1)]
+        xs += [f.one + s * (1 << j) + d for j in range(f.prec - 2) for s in (-1, 1) for d in (-1, 0, 1)]
+        for i in range(256):  # where the table's entry changes
+            for k in (0, -1, self.below(2 * f.emax - 1) - f.emax + 1):
+                xs += self.around(TABLE[i] << max(k, 0), 2**62 << max(-k, 0), 1)
+        xs += [self.rnd.getrandbits(f.prec - 1) >> self.below(f.prec - 1) for _ in range(n // 8)]  # subnormals
+        xs += [self.scatter(-f.emax, f.emax, 0) for _ in range(n // 2)]
+        xs += [self.scatter(-1, 0, 0) for _ in range(n // 2)]
+        xs += [f.one + (self.any() >> self.below(f.width)) % f.hid for _ in range(n // 4)]
+        xs += [f.one - (self.any() >> self.below(f.width)) % f.hid for _ in range(n // 4)]
+        xs += [self.any() for _ in range(n // 8)]
+        return [(x,) for x in xs]
+
+    def tall(self):
+        """an x with |L| so large that 16 |L| passes every limit"""
+        e = 9 if self.f is SINGLE else 65
+        return self.scatter(e, self.f.emax, 0) if self.rnd.getrandbits(1) else self.scatter(-self.f.emax, -e - 1, 0)
+
+    def reach(self, x, num, den, w):
+        """(x, y) with y L(x) nearest to num / den, and w steps from it"""
+        v = self.f.of_bits(x)
+        a, b = L(v[1], v[2])
+        return [(x, y) for y in self.around((num if a > 0 else -num) * b, den * abs(a), w)] if a else []
+
+    def pows(self):
+        f, n = self.f, self.n
+        ys = list(self.odd) + [1, f.top + 1, f.hid, f.top + f.hid]
+        for c, d in ((16, 1), (1, 1), (1, 2), (2, 1), (3, 1), (15, 1), (1, 10), (1, 2**30), (17, 1)):
+            ys += [b for s in (-1, 1) for b in self.around(s * c, d, 2 if c == 16 else 0)]
+        xs = self.edges + [self.bits(False, *q) for q in ((1, 2), (2, 1), (3, 1), (1, 10**4), (36500, 1), (9, 10))]
+        pairs = [(x, y) for x in xs for y in ys]
+        for _ in range(n // 40):  # A about the limits
+            for c in LIMITS[f][:2] + (32,):
+                pairs += self.reach(self.tall(), c, 1, 1) + self.reach(self.tall(), -c, 1, 1)
+        for _ in range(n // 8):  # A where k changes
+            k = self.below(2 * f.emax) - f.emax
+            pairs += self.reach(self.tall(), k * N, 2**64, 1)
+        low, high = self.bits(False, 1, 10**4), self.bits(False, 36500, 1)
+        pairs += [(low + self.below(high - low), self.uniform(-1, 1)) for _ in range(n)]  # as the scheduler calls it
+        pairs += [(self.scatter(-f.emax, f.emax, 0), self.uniform(-16, 16)) for _ in range(n)]
+        pairs += [(self.scatter(-6, 6, 0), self.uniform(-16, 16)) for _ in range(n // 2)]
+        pairs += [(self.scatter(-f.emax, f.emax, 0), self.scatter(-90, 3)) for _ in range(n // 4)]
+        for _ in range(n // 4):  # x at and just above 1, y at and just below 0
+            x = f.one + (self.any() >> self.below(f.width)) % f.hid
+            pairs += [(x, self.scatter(-100, 3, 1)), (x, self.uniform(-16, 0)), (f.one, self.uniform(-16, 16))]
+            pairs += [(x, self.rnd.getrandbits(1) * f.top)]
+        pairs += [(self.any(), self.any()) for _ in range(n // 8)]
+        return pairs
+
+    def rounds(self):
+        f, n = self.f, self.n
+        xs = list(self.edges)
+        for c in list(range(1, 40, 2)) + [2**j + 1 for j in range(5, f.prec + 2)]:
+            xs += [b for s in (-1, 1) for b in self.around(s * c, 2, 2)]
+        xs += [self.scatter(-3, f.prec + 1) for _ in range(n)] + [self.any() for _ in range(n // 4)]
+        return [(x,) for x in xs]
+
+    def fmas(self):
+        f, n = self.f, self.n
+        some = self.odd[:5] + [1, f.top + 1, f.hid - 1, f.hid, f.one, f.top + f.one, f.one + 1]
+        some += [f.inf - 1, f.top + f.inf - 1]
+        out = [(x, y, z) for x in some for y in some for z in some]
+        for _ in range(n):
+            x, y = self.scatter(-40, 40), self.scatter(-40, 40)
+            p = fma_def(f, f.of_bits(x), f.of_bits(y), (False, 0, 0))
+            out += [(x, y, (f.to_bits(p) ^ f.top) + self.below(7) - 3)]  # the product, almost taken away
+            out += [(x, y, self.scatter(-90, 90)), (self.any(), self.any(), self.any())]
+        return out
+
+
+KERNELS = {
+    "exp": (exp_def, judge_exp, Source.exps),
+    "ln": (ln_def, judge_ln, Source.logs),
+    "pow": (pow_def, judge_pow, Source.pows),
+    "fma": (fma_def, judge_nothing, Source.fmas),
+    "round": (round_def, judge_nothing, Source.rounds),
+}
+
+
+def ask(host, name, f, arguments):
+    """the answers of the host program, as patterns"""
+    d = f.width // 4
+    lines = "".join(f"{name} {' '.join(f'{b:0{d}x}' for b in bs)}\n" for bs in arguments)
+    out = subprocess.run(host, input=lines, capture_output=True, text=True, check=True).stdout.split()
+    if len(out) != len(arguments):
+        sys.exit(f"exact.py: {name}: {len(arguments)} asked, {len(out)} answered")
+    return [int(w, 16) for w in out]
+
+
+def word(b):
+    return NAN if b == NAN else f"{b:x}"
+
+
+def check(f, kernel, host, seed, n):
+    definition, judge, source = KERNELS[kernel]
+    name = f"fsrs_{kernel}_{f.name}"
+    arguments = [tuple(b % (1 << f.width) for b in bs) for bs in source(Source(f, seed, n))]
+    values = [[f.of_bits(b) for b in bs] for bs in arguments]
+    wanted = [f.to_bits(definition(f, *vs)) for vs in values]
+    given = ask(host, name, f, arguments) if host else wanted
+    tally, differ = Tally(), 0
+    for bs, vs, want, got in zip(arguments, values, wanted, given):
+        v = NAN if got == NAN else f.of_bits(got)
+        what = [word(b) for b in bs] + ["->", word(got)]
+        if (want != NAN) if v == NAN else got != want:
+            differ += 1
+            if differ <= 5:
+                print(f"    differs: {name} {' '.join(what)}, the definition has {word(want)}")
+        judge(f, tally, v, what, *vs)
+    print(f"{name}: {len(arguments)} answers, {differ} differ from the definition")
+    return len(arguments), differ, tally.show()
+
+
+def audit():
+    """the enclosure of E holds the exact fraction"""
+    for num, den in [(0, 1), (1, 3), (-1, 3), (86, 1), (-86, 1), (N, 2**64), (-N, 2**64), (700 * 2**40 - 1, 2**40)]:
+        k, lo, hi = E_between(num, den)
+        p = E_exact(num, den) / Fraction(2) ** k * UNIT
+        assert lo <= p <= hi and hi - lo < 64, (num, den)
+
+
+def main(words):
+    n, seed = 4000, 1
+    while words and words[0] in ("-n", "-s", "--"):
+        if words[0] == "--":
+            words = words[1:]
+            break
+        n, seed = (int(words[1]), seed) if words[0] == "-n" else (n, int(words[1]))
+        words = words[2:]
+    if words == ["table"]:
+        print("\n".join(f"0x{t:016X}" for t in TABLE[:256]))
+        return 0
+    audit()
+    total = [check(f, kernel, words, seed, n) for kernel in KERNELS for f in (SINGLE, DOUBLE)]
+    answers, differ, violated = (sum(column) for column in zip(*total))
+    print(f"{answers} answers, {differ} differ from the definition, {violated} violations of document 01")
+    return 0 if differ == violated == 0 else 1
+
+
+if __name__ == "__main__":
+    sys.exit(main(sys.argv[1:]))
