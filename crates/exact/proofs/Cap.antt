@@ -1,13 +1,12 @@
 -- Composition cut to degree K: from below by leaving terms out, from above, on [0, 1/3], by folding them into the last coefficient.
-use mathlib.Core.Path.{_≡_, refl, sym, ap, ap₂, _∙_, subst}
-use mathlib.Core.Bool.{Bool, true, false}
+use mathlib.Core.Path.{_≡_}
 use mathlib.Core.List.{List, [], _∷_}
-use Prim.Native.Nat.{ℕ, zero, suc, pred, _+_, _-_, _*_, _/_, _%_, _^_, _≤_, _<_, zero-le, suc-le-suc}
-use native.Mathlib.Nat.{le-refl, le-trans, le-of-eq, mul-zero, zero-mul, add-zero, zero-add, add-suc, suc-add, suc-mul, mul-le-mul, mul-le-mul-left, mul-le-mul-right, add-comm, pow-succ', pow-zero, mul-one, one-mul}
+use Prim.Native.Nat.{ℕ, zero, suc, _+_, _*_, _/_, _^_, _≤_}
+use native.Mathlib.Nat.{le-trans, zero-mul, add-zero, add-suc, suc-mul, mul-le-mul-left, mul-le-mul-right, pow-succ', pow-zero, mul-one}
 use native.Mathlib.Omega.{arith}
 use lib.Dec.{T}
 use lib.Pow.{pow-add}
-use Rattle.exact.proofs.Poly.{h, add, mul, comp}
+use Rattle.exact.proofs.Poly.{h, add, mul}
 use Rattle.exact.proofs.Laws.{fits, h-nil, h-const, h-add, h-mul, fits-nil, fits-one, fits-add, fits-mul, pow-mul, pow-pow}
 
 -- ---- from below

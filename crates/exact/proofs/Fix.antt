@@ -1,14 +1,12 @@
 -- p against r + x p on [0, c / d], by one computed test; the polynomial p is a composition.
-use mathlib.Core.Path.{_≡_, _∙_, subst, sym, refl}
+use mathlib.Core.Path.{_≡_}
 use mathlib.Core.Bool.{Bool, true, false}
 use mathlib.Core.List.{List, [], _∷_}
 use Prim.Native.Nat.{ℕ, zero, suc, _+_, _*_, _^_, _≤_, _<_}
-use native.Mathlib.Nat.{mul-one}
-use native.Mathlib.Omega.{arith}
 use native.Mathlib.Numerals.{one-add}
-use lib.Dec.{T, leb, ltb, leb→le}
-use Rattle.exact.proofs.Poly.{h, add, axpy, mul, comp}
-use Rattle.exact.proofs.Laws.{sub, fits, h-add, h-shift, h-lift, pow-one, h-comp, fits-comp, near}
+use lib.Dec.{T, leb, leb→le}
+use Rattle.exact.proofs.Poly.{h, add}
+use Rattle.exact.proofs.Laws.{sub, fits, h-add, h-shift, h-lift, pow-one, near}
 
 abbrev pub both : Bool → Bool → Bool
 both true b = b

@@ -1,12 +1,11 @@
 -- E: Horner's rule in fixed point, each product cut to a whole number; and a change of the argument's unit.
-use mathlib.Core.Path.{_≡_, refl, sym, ap, ap₂, _∙_, subst}
-use mathlib.Core.Bool.{Bool, true, false}
+use mathlib.Core.Path.{_≡_, refl}
 use mathlib.Core.List.{List, [], _∷_}
-use Prim.Native.Nat.{ℕ, zero, suc, pred, _+_, _-_, _*_, _/_, _%_, _^_, _≤_, _<_, zero-le, suc-le-suc}
-use native.Mathlib.Nat.{le-refl, le-trans, le-of-eq, mul-zero, zero-mul, add-zero, zero-add, mul-le-mul, mul-le-mul-left, mul-le-mul-right, pow-succ', pow-zero, mul-one, one-mul, div-mul-le-self, lt-div-mul-add, zero-div, div-le-of-le-mul}
+use Prim.Native.Nat.{ℕ, zero, suc, _+_, _*_, _/_, _^_, _≤_, _<_}
+use native.Mathlib.Nat.{mul-zero, mul-le-mul-left, mul-le-mul-right, pow-succ', pow-zero, div-mul-le-self, lt-div-mul-add, zero-div, div-le-of-le-mul}
 use native.Mathlib.Omega.{arith}
 use lib.Dec.{T}
-use Rattle.exact.proofs.Poly.{h, add, scale}
+use Rattle.exact.proofs.Poly.{h}
 use Rattle.exact.proofs.Laws.{fits, pow-mul}
 
 -- the polynomial p at s / w, cut at each step

@@ -1,16 +1,14 @@
 -- D: the polynomial at two fractions a / b and c / d
-use mathlib.Core.Path.{_≡_, refl, sym, ap, ap₂, _∙_, subst}
-use mathlib.Core.Bool.{Bool, true, false}
+use mathlib.Core.Path.{_≡_, refl}
 use mathlib.Core.List.{List, [], _∷_}
-use Prim.Native.Nat.{ℕ, zero, suc, pred, _+_, _-_, _*_, _/_, _%_, _^_, _≤_, _<_, zero-le, suc-le-suc}
-use native.Mathlib.Nat.{le-refl, le-trans, le-of-eq, mul-le-mul, mul-le-mul-left, mul-le-mul-right, pow-succ', pow-zero, le-of-mul-le-mul-right}
+use Prim.Native.Nat.{ℕ, zero, suc, _+_, _*_, _^_, _≤_}
+use native.Mathlib.Nat.{mul-le-mul, pow-succ', pow-zero}
 use native.Mathlib.Omega.{arith}
-use lib.Dec.{T}
 use mathlib.Core.Logic.{_⊎_, inl, inr}
 use native.Mathlib.Decide.{decLe}
 use Rattle.exact.proofs.Poly.{h}
 use Rattle.exact.proofs.Terms.{pcoef, f23}
-use Rattle.exact.proofs.Laws.{fits, h-mono, h-const, pow-mul}
+use Rattle.exact.proofs.Laws.{h-mono, pow-mul}
 
 -- the same fraction
 pub h-homog : (K : ℕ) (p : List ℕ) (k a b : ℕ) → h K p (k * a) (k * b) ≡ k ^ K * h K p a b

@@ -1,9 +1,9 @@
 -- The laws of h: sums, products, composition, order.
-use mathlib.Core.Path.{_≡_, refl, sym, ap, ap₂, _∙_, subst}
+use mathlib.Core.Path.{_≡_, refl, ap}
 use mathlib.Core.Bool.{Bool, true, false}
 use mathlib.Core.List.{List, [], _∷_}
-use Prim.Native.Nat.{ℕ, zero, suc, pred, _+_, _-_, _*_, _/_, _%_, _^_, _≤_, _<_, zero-le, suc-le-suc}
-use native.Mathlib.Nat.{le-refl, le-trans, le-of-eq, mul-assoc, mul-comm, mul-left-comm, mul-add, add-mul, mul-zero, zero-mul, add-zero, zero-add, add-suc, suc-add, mul-le-mul, mul-le-mul-left, mul-le-mul-right, add-le-add, add-assoc, add-comm, add-left-comm, pow-succ', pow-zero, mul-one, one-mul, suc-mul, one-le-pow, le-of-mul-le-mul-right}
+use Prim.Native.Nat.{ℕ, zero, suc, _+_, _-_, _*_, _^_, _≤_, _<_}
+use native.Mathlib.Nat.{zero-mul, add-zero, zero-add, add-suc, suc-add, mul-le-mul, mul-le-mul-left, mul-le-mul-right, add-comm, pow-succ', pow-zero, mul-one, suc-mul, one-le-pow, le-of-mul-le-mul-right}
 use native.Mathlib.Omega.{arith}
 use lib.Dec.{T}
 use lib.Pow.{pow-add}

@@ -1,11 +1,9 @@
 -- B: P(S(z)) against (1 + z) / (1 - z), for 0 ≤ z ≤ 1/3, by the composition cut at degree 63
-use mathlib.Core.Path.{_≡_, _∙_, subst, sym, refl}
-use mathlib.Core.Bool.{Bool, true, false}
+use mathlib.Core.Path.{_≡_}
 use mathlib.Core.List.{List, [], _∷_}
-use Prim.Native.Nat.{ℕ, zero, suc, _+_, _*_, _^_, _≤_, _<_}
-use native.Mathlib.Nat.{mul-le-mul-left, mul-le-mul-right, le-of-mul-le-mul-right, one-le-pow, pow-succ', eq-zero-or-pos}
+use Prim.Native.Nat.{ℕ, zero, _+_, _*_, _^_, _≤_, _<_}
+use native.Mathlib.Nat.{mul-le-mul-left, mul-le-mul-right, le-of-mul-le-mul-right, one-le-pow, pow-succ'}
 use native.Mathlib.Omega.{arith}
-use mathlib.Core.Logic.{_⊎_, inl, inr}
 use lib.Dec.{T, lit<, lit≤}
 use Rattle.exact.proofs.Poly.{h, add, axpy, mul}
 use Rattle.exact.proofs.Laws.{sub, fits, h-two, h-add, h-shift, h-lift, pow-one, near}

@@ -1,10 +1,9 @@
 -- A: P(u) P(v) against P(u + v), for 0 ≤ u ≤ 7/10 and 0 ≤ v ≤ 1/256
-use mathlib.Core.Path.{_≡_, _∙_, subst, sym, refl}
-use mathlib.Core.Bool.{Bool, true, false}
-use mathlib.Core.List.{List, [], _∷_}
-use Prim.Native.Nat.{ℕ, zero, suc, _+_, _*_, _^_, _≤_, _<_}
+use mathlib.Core.Path.{_≡_}
+use mathlib.Core.List.{List}
+use Prim.Native.Nat.{ℕ, _+_, _*_, _^_, _≤_}
 use native.Mathlib.Omega.{arith}
-use lib.Dec.{T, leb, ltb, leb→le, lit<, lit≤}
+use lib.Dec.{T, lit<, lit≤}
 use Rattle.exact.proofs.Poly.{h, add, scale}
 use Rattle.exact.proofs.Laws.{sub, fits, h-scale, h-lift}
 use Rattle.exact.proofs.Two.{h2, outer, bin, add2, shift2, sub2, h2-outer, h2-bin, near2}

@@ -1,13 +1,12 @@
 -- Polynomials in two arguments a / b and c / b: a list of rows, row k the coefficient of (c / b) ^ k, a polynomial in a / b.
-use mathlib.Core.Path.{_≡_, refl, sym, ap, ap₂, _∙_, subst}
-use mathlib.Core.Bool.{Bool, true, false}
+use mathlib.Core.Path.{_≡_, refl}
 use mathlib.Core.List.{List, [], _∷_}
-use Prim.Native.Nat.{ℕ, zero, suc, pred, _+_, _-_, _*_, _/_, _%_, _^_, _≤_, _<_, zero-le, suc-le-suc}
-use native.Mathlib.Nat.{le-refl, le-trans, le-of-eq, mul-zero, zero-mul, add-zero, zero-add, add-suc, suc-add, mul-le-mul, mul-le-mul-left, mul-le-mul-right, add-comm, pow-succ', pow-zero, mul-one, one-mul, one-le-pow, le-of-mul-le-mul-right}
+use Prim.Native.Nat.{ℕ, zero, suc, _+_, _*_, _^_, _≤_, _<_}
+use native.Mathlib.Nat.{zero-add, suc-add, mul-le-mul, mul-le-mul-left, mul-le-mul-right, pow-succ', one-le-pow, le-of-mul-le-mul-right}
 use native.Mathlib.Omega.{arith}
 use lib.Dec.{T}
 use Rattle.exact.proofs.Poly.{h, add, scale}
-use Rattle.exact.proofs.Laws.{fits, sub, h-nil, h-add, h-scale, h-const, h-shift, h-lift, h-sub, h-mono, fits-scale}
+use Rattle.exact.proofs.Laws.{fits, sub, h-nil, h-add, h-scale, h-lift, h-sub, h-mono}
 
 -- b ^ K times the value
 unfoldable pub h2 : ℕ → List (List ℕ) → ℕ → ℕ → ℕ → ℕ

@@ -63,13 +63,13 @@ pub fn exp_f32(x: f32) -> f32
     }
     let v = measure(a);
     let negative = v.negative;
-    let places = v.places;
-    if places > 1031 {
+    let shift = v.places;
+    if shift > 1031 {
         if negative {
             return 0.0;
         }
         return 1.0 / 0.0;
     }
-    let w = fixed(v.digits, places);
+    let w = fixed(v.digits, shift);
     power_f32(negative, w.high, w.low)
 }

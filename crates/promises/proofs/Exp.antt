@@ -1,19 +1,19 @@
 -- exp within document 01's distance of E: the argument is cut to a whole number of 2 ^ -72. Assumes nothing.
-use mathlib.Core.Path.{_≡_, refl, sym, ap, _∙_, subst}
-use mathlib.Core.Bool.{Bool, true, false, cond}
-use Prim.Native.Nat.{ℕ, zero, suc, _+_, _-_, _*_, _/_, _%_, _^_, _≤_, _<_}
-use native.Mathlib.Nat.{le-trans, le-of-eq, le-of-lt, lt-of-le-of-lt, lt-of-lt-of-le, mul-assoc, mul-comm, mul-left-comm, mul-le-mul-right, le-of-mul-le-mul-right, div-mul-le-self, lt-div-mul-add, mod-lt}
+use mathlib.Core.Path.{_≡_, sym, ap, subst}
+use mathlib.Core.Bool.{Bool, false, cond}
+use Prim.Native.Nat.{ℕ, _+_, _*_, _/_, _%_, _^_, _≤_, _<_}
+use native.Mathlib.Nat.{le-trans, le-of-eq, le-of-lt, mul-le-mul-right, le-of-mul-le-mul-right, div-mul-le-self, lt-div-mul-add, mod-lt}
 use native.Mathlib.Omega.{arith}
 use borrow.Author.Tests.{lt-leb}
-use lib.Dec.{T, leb, lit<, lit≤}
-use lib.IntN.{ℤ, pos}
-use lib.Ieee.{Float, inf, fin, Format, binary32, binary64, up, down, fits}
+use lib.Dec.{lit<, lit≤}
+use lib.IntN.{pos}
+use lib.Ieee.{Float, inf, fin, Format, binary32, binary64, up, down}
 use lib.Ieee.Fits.{down-pos}
-use Rattle.exact.specs.Exact.{Frac, N, E}
+use Rattle.exact.specs.Exact.{N, E}
 use Rattle.kernels.specs.Core.{biased, mantissa}
 use Rattle.kernels.specs.Kernels.{finish, fromPower, cut, expDef}
 use Rattle.promises.specs.Kernels.{Near, ExpNear, powerBits, reach}
-use Rattle.promises.proofs.Finish.{CoreNear, finish-near, exponent-in}
+use Rattle.promises.proofs.Finish.{finish-near, exponent-in}
 use Rattle.promises.proofs.Cores.{PowerNear, MantissaIn, slack}
 
 -- below the saturation, fromPower is `finish` of the core

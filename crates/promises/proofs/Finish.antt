@@ -1,19 +1,18 @@
 -- From the power's core to the float: where M * 2 ^ K / 2 ^ 2110 is near a fraction, so is the float that `finish` rounds it to. Assumes nothing.
 use mathlib.Core.Path.{_≡_, refl, sym, ap, _∙_, subst}
 use mathlib.Core.Bool.{Bool, true, false, cond, true≢false}
-use Prim.Native.Nat.{ℕ, zero, suc, _+_, _-_, _*_, _/_, _%_, _^_, _≤_, _<_}
-use native.Mathlib.Nat.{le-trans, le-of-eq, le-of-lt, lt-of-le-of-lt, lt-of-lt-of-le, mul-assoc, mul-comm, mul-left-comm, mul-pos, mul-le-mul, mul-le-mul-left, mul-le-mul-right, le-of-mul-le-mul-right, le-of-mul-le-mul-left, eq-of-mul-eq-mul-right}
+use Prim.Native.Nat.{ℕ, suc, _+_, _-_, _*_, _/_, _^_, _≤_, _<_}
+use native.Mathlib.Nat.{le-trans, le-of-eq, le-of-lt, lt-of-le-of-lt, mul-assoc, mul-comm, mul-left-comm, mul-pos, mul-le-mul-left, mul-le-mul-right, le-of-mul-le-mul-right, eq-of-mul-eq-mul-right}
 use native.Mathlib.Omega.{arith}
 use borrow.Author.Tests.{le-ltb}
-use lib.Dec.{ltb, lit<, lit≤}
-use lib.IntN.{ℤ, pos}
-use lib.Pow.{pow-pos, pow-add, pow-mono, pow-lt}
+use lib.Dec.{ltb, lit≤}
+use lib.IntN.{pos}
+use lib.Pow.{pow-pos, pow-add, pow-lt}
 use lib.Ieee.{Float, nan, inf, fin, Format, binary32, binary64, prec, emax, low, up, down, round}
 use lib.Ieee.Exact.{HasValue}
-use lib.Ieee.Fits.{down-pos}
 use lib.Ieee.Nearest.{closest}
 use Rattle.exact.specs.Exact.{Frac, N}
-use Rattle.kernels.specs.Core.{BIAS, biased}
+use Rattle.kernels.specs.Core.{biased}
 use Rattle.kernels.specs.Kernels.{finish}
 use Rattle.rounding.proofs.Closest.{closest-near}
 use Rattle.rounding.proofs.Place.{Range, placed-value, kept-le}

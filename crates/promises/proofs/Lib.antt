@@ -2,6 +2,9 @@
 pub mod Finish
 pub mod Cores
 pub mod Exp
+pub mod Ends
 pub mod Ln
 pub mod Pow
 pub mod Refusals
+pub mod power
+pub mod logarithm

@@ -1,29 +1,26 @@
 -- ln within document 01's distance of L: the fixed-point logarithm is a little off, and is rounded once. Assumes nothing.
 use mathlib.Core.Path.{_≡_, refl, sym, ap, _∙_, subst}
 use mathlib.Core.Bool.{Bool, true, false, not, _&&_, Bool·beq, cond}
-use mathlib.Core.List.{List, [], _∷_}
 use mathlib.Core.Logic.{_⊎_, inl, inr}
-use Prim.Native.Nat.{ℕ, zero, suc, _+_, _-_, _*_, _/_, _%_, _^_, _≤_, _<_, zero-le}
-use native.Mathlib.Nat.{le-refl, one-mul, le-trans, le-of-eq, le-of-lt, lt-of-le-of-lt, lt-of-lt-of-le, zero-lt-suc, eq-zero-or-pos, mul-one, zero-mul, mul-assoc, mul-comm, mul-left-comm, mul-pos, mul-le-mul, mul-le-mul-left, mul-le-mul-right, mul-lt-mul-of-pos-right, le-of-mul-le-mul-right, lt-of-mul-lt-mul-right, sub-add-cancel, add-mul, add-le-add, zero-add, div-le-of-le-mul, div-mul-le-self, add-zero, add-suc, suc-add}
+use Prim.Native.Nat.{ℕ, suc, _+_, _-_, _*_, _/_, _%_, _^_, _≤_, _<_, zero-le}
+use native.Mathlib.Nat.{le-refl, one-mul, le-trans, le-of-eq, le-of-lt, lt-of-le-of-lt, lt-of-lt-of-le, zero-lt-suc, eq-zero-or-pos, zero-mul, mul-assoc, mul-comm, mul-left-comm, mul-pos, mul-le-mul-left, mul-le-mul-right, mul-lt-mul-of-pos-right, le-of-mul-le-mul-right, lt-of-mul-lt-mul-right, sub-add-cancel, add-mul, add-le-add, zero-add, add-zero}
 use native.Mathlib.Omega.{arith}
-use borrow.Author.Tests.{ltb-false}
-use lib.Dec.{T, ltb, leb, eqb, ltb→lt, leb→le, nltb→le, nleb→lt, lit<, lit≤}
-use lib.IntN.{ℤ, pos, negsuc, subℕ, _+ℤ_}
+use lib.Dec.{T, ltb, leb, eqb, ltb→lt, leb→le, nleb→lt, lit≤}
+use lib.IntN.{ℤ, pos}
 use lib.Pow.{pow-pos, pow-add, pow-mono}
 use lib.Ieee.{Float, nan, inf, fin, Format, binary32, binary64, prec, emax, low, size, up, down, round, fits}
-use lib.Ieee.Digits.{size-lt, size-le, size-reaches}
 use lib.Ieee.Exact.{HasValue}
-use lib.Ieee.Fits.{and-l, and-r, down-pos}
+use lib.Ieee.Fits.{and-l, and-r}
 use lib.Ieee.Nearest.{closest}
 use lib.Ieee.Scale.{normal-of-fraction}
-use Rattle.exact.specs.Exact.{N, L}
-use Rattle.kernels.specs.Core.{entry, firstFrom, index, gap, below, downs, horner, high, moved, logAt, logarithm}
+use Rattle.exact.specs.Exact.{L}
+use Rattle.kernels.specs.Core.{below, logarithm}
 use Rattle.kernels.specs.Kernels.{lnDef}
-use Rattle.rounding.proofs.Pattern.{pow-lt-back, pow-le-back}
-use Rattle.rounding.proofs.Place.{round-none, size-pos}
+use Rattle.rounding.proofs.Place.{round-none}
 use Rattle.rounding.proofs.Relative.{kept-up, kept-down, kept-value}
-use Rattle.promises.specs.Kernels.{Close, LnClose, apart, logBits}
+use Rattle.promises.specs.Kernels.{Close, LnClose, logBits}
 use Rattle.promises.proofs.Cores.{LogNear, LogarithmNear, error}
+use Rattle.promises.proofs.logarithm.Size.{mag-lt as size-of-log}
 
 ruleset ac = (mul-assoc, mul-comm, mul-left-comm)
 
@@ -47,98 +44,9 @@ module _ (f : Format) (m : ℕ) (e : ℤ) (k : T (fits f (fin false (suc m) e)))
   not-high : suc m * up e < 2 ^ suc (emax f) * down e
   not-high = ltb→lt (suc m * up e) (2 ^ suc (emax f) * down e) (parts .2)
 
--- ---- a bound on the fixed-point logarithm, far above what it reaches: no overflow
-first-le : (d i M : ℕ) → firstFrom d i M ≤ i + d
-unfolding firstFrom
-first-le zero i M = le-of-eq (sym (add-zero i))
-first-le (suc d) i M = go (leb M (entry i)) (first-le d (suc i) M)
-  where
-    go : (b : Bool) → firstFrom d (suc i) M ≤ suc i + d → cond b i (firstFrom d (suc i) M) ≤ i + suc d
-    go true h = first i (suc d)
-      where
-        first : (i d : ℕ) → i ≤ i + d
-        first i d = omega arith
-    go false h = le-trans h (le-of-eq (suc-add i d ∙ sym (add-suc i d)))
-
--- with products of at most the other factor, Horner's rule is at most the sum of its coefficients
-total : List ℕ → ℕ
-total [] = 0
-total (c ∷ cs) = c + total cs
-
-horner-le : (cs : List ℕ) (x : ℕ) → x ≤ 2 ^ 64 → horner cs x ≤ total cs
-unfolding horner total
-horner-le [] x h = le-refl 0
-horner-le (c ∷ cs) x h = add c (x * horner cs x / 2 ^ 64) (horner cs x) (total cs) (high-le x (horner cs x) h) (horner-le cs x h)
-  where
-    high-le : (x p : ℕ) → x ≤ 2 ^ 64 → x * p / 2 ^ 64 ≤ p
-    high-le x p h = div-le-of-le-mul (2 ^ 64) {n = p} (mul-le-mul-right p h)
-    add : (c p q t : ℕ) → p ≤ q → q ≤ t → c + p ≤ c + t
-    add c p q t a b = omega arith
-
-downs-le : (f : Format) → total (downs f) ≤ 2 ^ 65
-unfolding total downs
-downs-le binary32 = lit≤ tt
-downs-le binary64 = lit≤ tt
-
-gap-le : (i M : ℕ) → gap i M ≤ 2 ^ 64
-unfolding gap
-gap-le i M = cap (M * entry (256 - i) / 2 ^ 61)
-  where
-    cap : (x : ℕ) → 2 ^ 64 - x ≤ 2 ^ 64
-    cap x = omega arith
-
-below-le : (f : Format) (i M : ℕ) → below f (gap i M) ≤ 2 ^ 66
-unfolding below
-below-le f i M = div-le-of-le-mul (2 ^ 63) {n = 2 ^ 66} (mul-le-mul (gap-le i M) (le-trans (horner-le (downs f) (gap i M) (gap-le i M)) (downs-le f)))
-
--- k is at most 1100 either way
-abbrev Few : ℤ → Type 0
-Few (pos k) = k ≤ 1100
-Few (negsuc k) = k ≤ 1100
-
-limits : (f : Format) → (suc (emax f) ≤ 1100) × (low f ≤ 1100) × (prec f ≤ 1100)
-limits binary32 = (lit≤ tt, lit≤ tt, lit≤ tt)
-limits binary64 = (lit≤ tt, lit≤ tt, lit≤ tt)
-
-few-at : (f : Format) (m : ℕ) (e : ℤ) → T (fits f (fin false (suc m) e)) → Few (e +ℤ pos (size (suc m) - 1))
-few-at f m (pos a) k =
-    le-trans (le-of-lt (pow-lt-back (a + (size (suc m) - 1)) (suc (emax f)) (lt-of-le-of-lt (le-trans (le-of-eq (pow-add 2 a (size (suc m) - 1) ∙ mul-comm (2 ^ a) (2 ^ (size (suc m) - 1)))) (mul-le-mul-right (2 ^ a) (size-reaches (suc m) (size (suc m) - 1) (pred (size (suc m)) (size-pos (suc m) (zero-lt-suc m)))))) (lt-of-lt-of-le (not-high f m (pos a) k) (le-of-eq (mul-one (2 ^ suc (emax f)))))))) (limits f .0)
-  where
-    pred : (z : ℕ) → 0 < z → z - 1 < z
-    pred z h = omega arith
-few-at f m (negsuc a) k = go (ltb (size (suc m) - 1) (suc a))
-  where
-    small : suc a ≤ low f
-    small = pow-le-back (suc a) (low f) (not-low f m (negsuc a) k)
-    sized : size (suc m) ≤ prec f
-    sized = size-le (suc m) (prec f) (digits-below f m (negsuc a) k)
-    cap : (a z l : ℕ) → suc a ≤ l → l ≤ 1100 → suc a - suc z ≤ 1100
-    cap a z l h g = omega arith
-    cap' : (z a p : ℕ) → z ≤ p → p ≤ 1100 → z - 1 - suc a ≤ 1100
-    cap' z a p h g = omega arith
-    go : (b : Bool) → Few (cond b (negsuc (suc a - suc (size (suc m) - 1))) (pos (size (suc m) - 1 - suc a)))
-    go true = cap a (size (suc m) - 1) (low f) small (limits f .1)
-    go false = cap' (size (suc m)) a (prec f) sized (limits f .2)
-
-log-lt : (z : ℤ) (i l : ℕ) → Few z → i ≤ 256 → l ≤ 2 ^ 66 → logAt z i l .mag < 2 ^ 90
-log-lt (pos k) i l h g j = lt-of-le-of-lt (sub ((256 * k + i) * N) (256 * l)) (lt-of-le-of-lt (mul-le-mul-right N (cap k i h g)) (lit< tt))
-  where
-    sub : (a b : ℕ) → a - b ≤ a
-    sub a b = omega arith
-    cap : (k i : ℕ) → k ≤ 1100 → i ≤ 256 → 256 * k + i ≤ 300000
-    cap k i h g = omega arith
-log-lt (negsuc k) i l h g j = lt-of-le-of-lt (sum ((256 * suc k - i) * N) (256 * l) (300000 * N) (2 ^ 74) (mul-le-mul-right N (cap k i h)) (times l j)) (lit< tt)
-  where
-    cap : (k i : ℕ) → k ≤ 1100 → 256 * suc k - i ≤ 300000
-    cap k i h = omega arith
-    times : (l : ℕ) → l ≤ 2 ^ 66 → 256 * l ≤ 2 ^ 74
-    times l j = omega arith
-    sum : (a b c d : ℕ) → a ≤ c → b ≤ d → a + b ≤ c + d
-    sum a b c d x y = omega arith
-
-pub mag-lt : (f : Format) (m : ℕ) (e : ℤ) → T (fits f (fin false (suc m) e)) → logarithm f (suc m) e .mag < 2 ^ 90
-unfolding logarithm
-mag-lt f m e k = log-lt (e +ℤ pos (size (suc m) - 1)) (index (moved (suc m))) (below f (gap (index (moved (suc m))) (moved (suc m)))) (few-at f m e k) (first-le 256 0 (moved (suc m))) (below-le f (index (moved (suc m))) (moved (suc m)))
+-- far below what overflows
+pub mag-lt : (f : Format) (m : ℕ) (e : ℤ) → T (fits f (fin false (suc m) e)) → logarithm f (suc m) e .mag < 2 ^ 82
+mag-lt f m e k = size-of-log f (suc m) e (zero-lt-suc m) (digits-below f m e k) (not-low f m e k) (not-high f m e k)
 
 -- ---- numbers alone: x / e the result, g the fixed-point logarithm, v / w the exact one; t = 2 ^ 72, r = 2 ^ prec, p and q the promise
 less-by : (a b c k : ℕ) → a * k ≤ b * k + c → (a - b) * k ≤ c
@@ -206,7 +114,7 @@ down-go x e g v w δ t r r1 p q h1 h2 er hp hd z =
     a4 a b c = omega arith
 
 -- ---- the promise
-roomy : (f : Format) → (2 ^ logBits f ≤ 2 ^ prec f) × (error f * (2 ^ prec f + 1) * 2 ^ 48 ≤ 2 ^ 72 * 2 ^ prec f) × (prec f - 1 + 72 ≤ low f) × (low f + 19 < low f + suc (emax f))
+roomy : (f : Format) → (2 ^ logBits f ≤ 2 ^ prec f) × (error f * (2 ^ prec f + 1) * 2 ^ 48 ≤ 2 ^ 72 * 2 ^ prec f) × (prec f - 1 + 72 ≤ low f) × (low f + 11 < low f + suc (emax f))
 roomy binary32 = (lit≤ tt, lit≤ tt, lit≤ tt, lit≤ tt)
 roomy binary64 = (lit≤ tt, lit≤ tt, lit≤ tt, lit≤ tt)
 
@@ -297,12 +205,12 @@ module _ (f : Format) (m : ℕ) (e : ℤ) (k : T (fits f (fin false (suc m) e)))
   small h =
       lt-of-lt-of-le
       (lt-of-mul-lt-mul-right (2 ^ 72) (lt-of-le-of-lt (doubled kept g (2 ^ low f) (2 ^ 72) (2 ^ prec f) (pow-pos (prec f)) (kept-up f s g (2 ^ 72) (pow-pos 72) (normal h)))
-      (lt-of-lt-of-le (twice-lt (g * 2 ^ low f) (2 ^ 90 * 2 ^ low f) (mul-lt-mul-of-pos-right (mag-lt f m e k) (pow-pos (low f)))) (le-of-eq (ap (λ (x : ℕ). x * 2) (sym (pow-add 2 90 (low f))) ∙ sym (pow-add 2 (90 + low f) 1) ∙ ap (λ (x : ℕ). 2 ^ x) (sum (low f)) ∙ pow-add 2 (low f + 19) 72)))))
+      (lt-of-lt-of-le (twice-lt (g * 2 ^ low f) (2 ^ 82 * 2 ^ low f) (mul-lt-mul-of-pos-right (mag-lt f m e k) (pow-pos (low f)))) (le-of-eq (ap (λ (x : ℕ). x * 2) (sym (pow-add 2 82 (low f))) ∙ sym (pow-add 2 (82 + low f) 1) ∙ ap (λ (x : ℕ). 2 ^ x) (sum (low f)) ∙ pow-add 2 (low f + 11) 72)))))
       (pow-mono (le-of-lt (roomy f .3)))
     where
       twice-lt : (x y : ℕ) → x < y → x * 2 < y * 2
       twice-lt x y h = omega arith
-      sum : (l : ℕ) → 90 + l + 1 ≡ l + 19 + 72
+      sum : (l : ℕ) → 82 + l + 1 ≡ l + 11 + 72
       sum l = omega arith
 
   -- one rounding

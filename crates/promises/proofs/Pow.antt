@@ -1,21 +1,22 @@
 -- pow within document 01's distance of E(y L(x)): the argument is y times a logarithm that is itself a little off. Assumes nothing.
-use mathlib.Core.Path.{_≡_, refl, sym, ap, _∙_, subst}
+use mathlib.Core.Path.{_≡_, sym, ap, _∙_, subst}
 use mathlib.Core.Bool.{Bool, true, false, _&&_, _||_, cond}
 use mathlib.Core.Logic.{_⊎_, inl, inr}
-use Prim.Native.Nat.{ℕ, zero, suc, _+_, _-_, _*_, _/_, _%_, _^_, _≤_, _<_}
+use Prim.Native.Nat.{ℕ, suc, _+_, _-_, _*_, _/_, _^_, _≤_, _<_}
 use native.Mathlib.Nat.{le-trans, le-of-eq, le-of-lt, zero-lt-suc, mul-assoc, mul-comm, mul-left-comm, mul-one, add-mul, mul-pos, mul-le-mul-left, mul-le-mul-right, le-of-mul-le-mul-right, div-mul-le-self, lt-div-mul-add}
 use native.Mathlib.Omega.{arith}
-use lib.Dec.{T, ltb, eqb, ltb→lt, eqb→eq, lit<, lit≤}
+use lib.Dec.{T, ltb, eqb, ltb→lt, eqb→eq, lit≤}
 use lib.IntN.{ℤ, pos}
-use lib.Ieee.{Float, nan, inf, fin, Format, binary32, binary64, prec, up, down, unlike, fits, le}
+use lib.Ieee.{Float, nan, fin, Format, binary32, binary64, up, down, unlike, le}
 use lib.Ieee.Bits.{is-true}
 use lib.Ieee.Fits.{down-pos}
-use Rattle.exact.specs.Exact.{Frac, E, L}
+use Rattle.exact.specs.Exact.{E, L}
 use Rattle.kernels.specs.Core.{logarithm}
 use Rattle.kernels.specs.Kernels.{fromPower, cut, powered, powDef}
-use Rattle.promises.specs.Kernels.{Near, PowNear, argument, powerBits, reach}
+use Rattle.promises.specs.Kernels.{Near, PowNear, PowEnds, argument, powerBits, reach, edge, ended}
 use Rattle.promises.proofs.Cores.{PowerNear, MantissaIn, LogNear, LogarithmNear, slack, error}
 use Rattle.promises.proofs.Exp.{power-near}
+use Rattle.promises.proofs.Ends.{power-ends}
 use Rattle.promises.proofs.Ln.{digits-below}
 
 ruleset ac = (mul-assoc, mul-comm, mul-left-comm)
@@ -129,3 +130,27 @@ pow-near f core mant near m e t n d k l p r = at (near (suc m) e (zero-lt-suc m)
         (subst (λ (s : Bool). Near (powerBits f) (fromPower f (unlike (logarithm f (suc m) e .negative) t) (cut n d g)) (E (unlike s t) (x * v) (b * w))) (a .sign)
         (power-near f core mant (unlike (logarithm f (suc m) e .negative) t) (x * v) (b * w) (cut n d g) z
         (reaches (cut n d g) (b * w) (x * v) (reach f) (2 ^ 72) (slack f) z above r (slack-small f)) under above))
+
+-- past the ends, whatever the slack
+passes : (q z a r t σ : ℕ) → 0 < z → a * t ≤ (q + σ) * z → r * z ≤ a → σ ≤ 2 ^ 26 → r * t - 2 ^ 26 ≤ q
+passes q z a r t σ h k l c = less (r * t) q σ c (le-of-mul-le-mul-right {k = z} (le-trans (le-of-eq (turn r z t)) (le-trans (mul-le-mul-right t l) k)) h)
+  where
+    turn : (r z t : ℕ) → r * t * z ≡ r * z * t
+    turn r z t = simp ac
+    less : (a q σ : ℕ) → σ ≤ 2 ^ 26 → a ≤ q + σ → a - 2 ^ 26 ≤ q
+    less a q σ c h = omega arith
+
+pub pow-ends : (f : Format) → LogarithmNear f → PowEnds f
+pow-ends f near m e t n d k l p r = at (near (suc m) e (zero-lt-suc m) (digits-below f m e k))
+  where
+    at : LogNear f (suc m) e → powDef f (fin false (suc m) e) (fin t n d) ≡ ended (unlike (L (suc m) e .negative) t)
+    at a =
+        let g = logarithm f (suc m) e .mag in
+        let v = L (suc m) e .size .num in
+        let w = L (suc m) e .size .den in
+        let x = n * up d in
+        let b = down d in
+        let under = lo x b g v w (error f) (slack f) (down-pos d) (bounded t n d p) (slack-is f) (2 ^ 72) (a .below) in
+        in-domain f m e t n d p
+        ∙ power-ends f (unlike (logarithm f (suc m) e .negative) t) (cut n d g) (passes (cut n d g) (b * w) (x * v) (edge f) (2 ^ 72) (slack f) (mul-pos (down-pos d) (a .den-pos)) under r (slack-small f))
+        ∙ ap (λ (s : Bool). ended (unlike s t)) (a .sign)

@@ -1,15 +1,14 @@
 -- The NaN stands exactly outside the domain: no rounding makes one. Assumes nothing.
-use mathlib.Core.Path.{_≡_, refl, sym, ap, _∙_}
-use mathlib.Core.Bool.{Bool, true, false, not, _&&_, cond}
+use mathlib.Core.Path.{_≡_, refl}
+use mathlib.Core.Bool.{Bool, true, false, not, cond}
 use Prim.Native.Nat.{ℕ, zero, suc, _+_, _-_, _*_, _/_, _%_, _^_, compare}
 use lib.Dec.{leb, ltb}
-use lib.IntN.{ℤ, pos}
+use lib.IntN.{pos}
 use lib.Ieee.{Float, nan, inf, fin, Format, prec, emax, low, size, nearest, odd, units, round, unlike, isNan, le}
-use lib.Ieee.Scale.{finite}
 use Rattle.exact.specs.Exact.{N}
 use Rattle.kernels.specs.Core.{biased, mantissa, logarithm}
-use Rattle.kernels.specs.Kernels.{finish, fromPower, cut, powered, powAt, expDef, lnDef, powDef}
-use Rattle.promises.specs.Kernels.{ExpRefuses, LnRefuses, PowRefuses, positive}
+use Rattle.kernels.specs.Kernels.{finish, fromPower, cut, powered, expDef, lnDef, powDef}
+use Rattle.promises.specs.Kernels.{ExpRefuses, LnRefuses, PowRefuses}
 
 either : (b : Bool) (x y : Float) → isNan x ≡ false → isNan y ≡ false → isNan (cond b x y) ≡ false
 either true x y h g = h

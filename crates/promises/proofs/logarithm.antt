@@ -7,3 +7,4 @@ pub mod Core
 pub mod Moved
 pub mod Near
 pub mod Size
+pub mod Meets

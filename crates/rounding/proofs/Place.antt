@@ -1,10 +1,10 @@
 -- A number of 63 digits times a power of two, rounded to a format: which digits are dropped, what is kept, and the bits.
 -- The fraction is v * 2 ^ x / 2 ^ (low + g): x and g count from the format's smallest value, so nothing here is negative. Assumes nothing.
 use mathlib.Core.Path.{_≡_, refl, sym, ap, _∙_, subst}
-use mathlib.Core.Bool.{Bool, true, false, not, cond}
+use mathlib.Core.Bool.{Bool, true, false, cond}
 use mathlib.Core.Logic.{_⊎_, inl, inr}
-use Prim.Native.Nat.{ℕ, zero, suc, _+_, _-_, _*_, _/_, _%_, _^_, _≤_, _<_, min, compare, zero-le}
-use native.Mathlib.Nat.{le-refl, zero-add, add-zero, add-comm, le-trans, le-of-eq, lt-of-le-of-lt, lt-of-lt-of-le, eq-or-lt-of-le, eq-zero-or-pos, mul-assoc, mul-comm, mul-left-comm, mul-le-mul-right, mul-lt-mul-of-pos-right, mul-pos, mul-div-mul-right, le-div-iff-mul-le, div-lt-iff-lt-mul, zero-mul, mul-one}
+use Prim.Native.Nat.{ℕ, zero, suc, _+_, _-_, _*_, _/_, _%_, _^_, _≤_, _<_, min, compare}
+use native.Mathlib.Nat.{add-comm, le-trans, le-of-eq, lt-of-le-of-lt, lt-of-lt-of-le, eq-or-lt-of-le, eq-zero-or-pos, mul-assoc, mul-comm, mul-left-comm, mul-le-mul-right, mul-pos, mul-div-mul-right, le-div-iff-mul-le, div-lt-iff-lt-mul, zero-mul}
 use native.Mathlib.Omega.{arith}
 use lib.Dec.{eqb, lit≤, eqb·suc-zero}
 use lib.IntN.{pos}

@@ -1,16 +1,16 @@
 -- A number that lies strictly between w and w + 1, in units of 2 ^ y, rounds as w and a half does, where w has more digits than the format keeps:
 -- of what was cut off, only "something is left" counts. So one bit, the sticky bit, stands for it. Assumes nothing.
-use mathlib.Core.Path.{_≡_, refl, sym, ap, ap₂, _∙_, subst}
+use mathlib.Core.Path.{_≡_, sym, ap, _∙_, subst}
 use mathlib.Core.Bool.{Bool, true, false, not, cond, _||_}
 use mathlib.Core.Logic.{_⊎_, inl, inr}
-use Prim.Native.Nat.{ℕ, zero, suc, _+_, _-_, _*_, _/_, _%_, _^_, _≤_, _<_, compare, Ordering, Ordering·lt, Ordering·gt}
-use native.Mathlib.Nat.{add-zero, le-refl, le-trans, le-of-eq, le-of-lt, lt-of-lt-of-le, lt-of-le-of-lt, le-antisymm, le-of-suc-le-suc, lt-of-not-le, not-le-of-lt, lt-irrefl, mul-le-mul-left, mul-le-mul-right, mul-lt-mul-of-pos-right, lt-of-mul-lt-mul-right, mul-pos, mul-assoc, mul-comm, mul-left-comm, mul-one, one-mul, div-add-mod', mod-lt, div-lt-iff-lt-mul, le-div-iff-mul-le, add-sub-of-le, sub-add-cancel}
+use Prim.Native.Nat.{ℕ, suc, _+_, _-_, _*_, _/_, _%_, _^_, _≤_, _<_, compare, Ordering, Ordering·lt, Ordering·gt}
+use native.Mathlib.Nat.{add-zero, le-trans, le-of-eq, le-of-lt, lt-of-lt-of-le, lt-of-le-of-lt, le-antisymm, le-of-suc-le-suc, lt-of-not-le, not-le-of-lt, lt-irrefl, mul-le-mul-left, mul-le-mul-right, mul-lt-mul-of-pos-right, lt-of-mul-lt-mul-right, mul-pos, mul-assoc, mul-comm, one-mul, div-add-mod', mod-lt, div-lt-iff-lt-mul, le-div-iff-mul-le, add-sub-of-le, sub-add-cancel}
 use native.Mathlib.Omega.{arith}
 use lib.Dec.{T, ltb, leb, ltb→lt, nltb→le, leb→le, nleb→lt, lit≤}
 use lib.Pow.{pow-pos, pow-add, pow-mono}
 use lib.Arith.{digits-div, digits-mod}
-use lib.Ieee.{Float, Format, binary32, binary64, prec, low, size, nearest, units, round}
-use lib.Ieee.Digits.{size-lt, size-le, size-reaches}
+use lib.Ieee.{Format, binary32, binary64, prec, low, size, nearest, units, round}
+use lib.Ieee.Digits.{size-lt, size-le}
 use lib.Ieee.Fits.{core, round-is}
 use lib.Ieee.Nearest.{closest}
 use lib.Ieee.Scale.{round-same}

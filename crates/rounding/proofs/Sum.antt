@@ -1,10 +1,10 @@
 -- The kit's `sum` as one rounding of one exact number, and that it sees only the values of its fractions. Assumes nothing.
-use mathlib.Core.Path.{_≡_, refl, sym, ap, _∙_, subst}
-use mathlib.Core.Bool.{Bool, true, false, not, _&&_, Bool·beq, cond}
-use Prim.Native.Nat.{ℕ, _+_, _-_, _*_, _≤_, _<_}
+use mathlib.Core.Path.{_≡_, refl, sym, ap, _∙_}
+use mathlib.Core.Bool.{Bool, true, false, _&&_, Bool·beq, cond}
+use Prim.Native.Nat.{ℕ, _+_, _-_, _*_, _<_}
 use native.Mathlib.Nat.{add-mul, mul-comm, mul-sub, lt-of-le-of-lt, lt-of-lt-of-le, le-of-eq, mul-lt-mul-of-pos-right, lt-of-mul-lt-mul-right}
 use lib.Dec.{T, ltb, ltb→lt, lt→ltb}
-use lib.Ieee.{Float, Format, round, sum}
+use lib.Ieee.{Format, round, sum}
 use lib.Ieee.Scale.{round-same}
 
 -- the sign and the size of ±a + ±b; a zero from unlike signs is positive

@@ -1,11 +1,11 @@
 -- What is below half of the format's smallest value rounds to zero, with its sign. Assumes nothing.
-use mathlib.Core.Path.{_≡_, refl, sym, ap, _∙_, subst}
+use mathlib.Core.Path.{_≡_, sym, ap, _∙_, subst}
 use mathlib.Core.Bool.{Bool}
-use Prim.Native.Nat.{ℕ, zero, _+_, _-_, _*_, _/_, _^_, _≤_, _<_}
+use Prim.Native.Nat.{ℕ, _-_, _*_, _/_, _^_, _≤_, _<_}
 use native.Mathlib.Nat.{div-eq-of-lt, mul-one, zero-mul, zero-sub}
 use native.Mathlib.Omega.{arith}
 use lib.Dec.{lit<}
-use lib.Ieee.{Float, Format, prec, low, size, units, round}
+use lib.Ieee.{Format, prec, low, size, units, round}
 use lib.Ieee.Digits.{size-le}
 use lib.Ieee.Fits.{core, round-is}
 use lib.Ieee.Nearest.{closest}

@@ -2,7 +2,7 @@
 use Prim.Native.Nat.{ℕ, _+_, _-_, _/_, _%_}
 use mathlib.Core.Bool.{Bool, true, false, cond}
 use lib.Dec.{leb, eqb}
-use lib.IntN.{ℤ, pos}
+use lib.IntN.{pos}
 use lib.Ieee.{Float, nan, inf, fin, Format, low, minus, hid, top, toBits}
 use Rattle.soft.specs.declared.decode.Parts.{Parts}
 use Rattle.soft.specs.declared.decode.Class.{Class}

@@ -1,13 +1,12 @@
 -- exp's argument: what `fromPower` is given, from the fields of a finite float, and where it saturates. Assumes nothing.
 use mathlib.Core.Path.{_≡_, refl, sym, ap, _∙_, subst}
 use mathlib.Core.Bool.{Bool, true, false, not, cond, true≢false}
-use Prim.Native.Nat.{ℕ, _+_, _-_, _*_, _/_, _^_, _≤_, _<_}
-use native.Mathlib.Nat.{mul-assoc, mul-le-mul, le-trans, le-of-eq, le-div-iff-mul-le}
-use native.Mathlib.Omega.{arith}
+use Prim.Native.Nat.{ℕ, _*_, _/_, _^_, _≤_, _<_}
+use native.Mathlib.Nat.{mul-assoc, mul-le-mul, le-trans, le-div-iff-mul-le}
 use borrow.Author.Tests.{not-true, not-false}
 use lib.Dec.{T, lit≤}
 use lib.IntN.{pos}
-use lib.Pow.{pow-pos, pow-add, pow-mono}
+use lib.Pow.{pow-pos, pow-mono}
 use lib.Ieee.{Float, nan, inf, fin, Format, binary64, up, down, fits}
 use lib.Ieee.Exact.{HasValue}
 use lib.Ieee.Fits.{down-pos}

@@ -3,7 +3,7 @@ use mathlib.Core.Path.{_≡_, sym, ap, _∙_, subst}
 use Prim.Native.Nat.{ℕ, _+_, _-_, _*_, _/_, _%_, _^_, _≤_, _<_}
 use native.Mathlib.Nat.{le-of-lt, lt-of-lt-of-le, mul-le-mul, mul-le-mul-left, mul-assoc, one-mul, sub-add-cancel, mul-div-cancel, mul-div-mul-right, div-eq-of-lt, div-add-mod', mod-lt, div-le-self}
 use native.Mathlib.Omega.{arith}
-use lib.Dec.{lit<, lit≤}
+use lib.Dec.{lit<}
 use lib.Pow.{pow-pos, pow-add, pow-mono, shl-exact, shl-lt}
 use Rattle.kernels.specs.declared.power.Words.{Words}
 use Rattle.kernels.specs.PowerSteps.{Holds}

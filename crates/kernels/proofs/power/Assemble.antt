@@ -1,6 +1,6 @@
 -- A significand of 63 digits, rounded by one shift and added to its exponent's field: the pattern of the nearest float in the normal range. Assumes nothing.
-use mathlib.Core.Path.{_≡_, refl, sym, ap, _∙_, subst}
-use mathlib.Core.Bool.{Bool, false, not}
+use mathlib.Core.Path.{_≡_, sym, ap, _∙_}
+use mathlib.Core.Bool.{false, not}
 use Prim.Native.Nat.{ℕ, _+_, _-_, _*_, _/_, _%_, _^_, _≤_, _<_, min}
 use native.Mathlib.Nat.{zero-add}
 use native.Mathlib.Omega.{arith}
@@ -9,7 +9,7 @@ use lib.Ieee.{Format, prec, low, hid, ones, round, ofBits, nanBits}
 use lib.Ieee.Nearest.{closest}
 use Rattle.rounding.proofs.Closest.{by-shift}
 use Rattle.rounding.proofs.Pattern.{pattern-not-nan}
-use Rattle.rounding.proofs.Place.{Range, placed}
+use Rattle.rounding.proofs.Place.{placed}
 
 -- half a unit is h less one, and one more at an odd digit
 abbrev pub rounded : (h m : ℕ) → ℕ

@@ -7,7 +7,6 @@ use native.Mathlib.Nat.{le-refl, le-trans, add-le-add, mul-le-mul, mul-zero, le-
 use lib.Dec.{T, ltb, ltb→lt}
 use lib.Pow.{pow-pos}
 use lib.Ieee.{Format, binary32, binary64}
-use lib.ListN.{getD}
 use Rattle.exact.specs.Exact.{N, P, taylor, fact}
 use Rattle.kernels.specs.Core.{entry, ups, high, horner, mantissa}
 use Rattle.kernels.specs.PowerSteps.{Significand}

@@ -2,13 +2,12 @@
 use mathlib.Core.Path.{_≡_, refl, sym, ap, _∙_, subst}
 use mathlib.Core.Bool.{Bool, _&&_}
 use mathlib.Core.List.{List, [], _∷_}
-use mathlib.Core.Logic.{_⊎_, inl, inr}
+use mathlib.Core.Logic.{inl, inr}
 use Prim.Native.Nat.{ℕ, zero, suc, _+_, _^_, _≤_, _<_}
 use native.Mathlib.Nat.{add-zero, add-suc, suc-add, zero-add, le-of-suc-le-suc, not-suc-le-zero, le-of-lt, eq-or-lt-of-le}
-use native.Mathlib.Omega.{arith}
 use lib.Dec.{T, leb, ltb, leb→le, ltb→lt, lit≤}
 use lib.Ieee.Fits.{and-l, and-r}
-use lib.ListN.{length, getD}
+use lib.ListN.{getD}
 use Rattle.exact.specs.Exact.{P, taylor, fact}
 use Rattle.kernels.specs.Core.{entry}
 use Rattle.kernels.proofs.table.Every.{every, at}

@@ -1,10 +1,10 @@
 -- The kernel's significand against P: M is at most 2 ^ -31 above 2 ^ 62 P((i N + s) / 2 ^ 72), and at most `loss` below. Assumes nothing.
 use mathlib.Core.Path.{_≡_, refl}
 use mathlib.Core.List.{List, [], _∷_}
-use Prim.Native.Nat.{ℕ, zero, suc, _+_, _-_, _*_, _/_, _^_, _≤_, _<_}
-use native.Mathlib.Nat.{le-trans, le-of-lt, mul-assoc, mul-le-mul, mul-le-mul-left, mul-le-mul-right, le-of-mul-le-mul-right, le-of-mul-le-mul-left, lt-of-mul-lt-mul-right, lt-of-le-of-lt, mul-lt-mul-of-pos-left, le-add-right, mul-pos, div-mul-le-self, lt-div-mul-add}
+use Prim.Native.Nat.{ℕ, zero, _+_, _-_, _*_, _/_, _^_, _≤_, _<_}
+use native.Mathlib.Nat.{le-trans, mul-le-mul, mul-le-mul-left, mul-le-mul-right, le-of-mul-le-mul-right, lt-of-mul-lt-mul-right, lt-of-le-of-lt, mul-lt-mul-of-pos-left, le-add-right, mul-pos, div-mul-le-self, lt-div-mul-add}
 use native.Mathlib.Omega.{arith}
-use lib.Dec.{eqb, lit<, lit≤}
+use lib.Dec.{lit<}
 use lib.Ieee.{Format, binary32, binary64}
 use lib.Pow.{pow-add}
 use borrow.Author.Tests.{ne-eqb}

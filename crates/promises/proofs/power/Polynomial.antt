@@ -1,8 +1,8 @@
 -- The kernel's chain for e ^ s - 1 against P: 2 ^ 71 P(s / (256 w)), for s ≤ 7/10 w, each product cut to a whole number. Assumes nothing.
 use mathlib.Core.Path.{_≡_, refl, sym}
-use mathlib.Core.List.{List, [], _∷_}
-use Prim.Native.Nat.{ℕ, zero, suc, _+_, _-_, _*_, _/_, _^_, _≤_, _<_}
-use native.Mathlib.Nat.{mul-assoc, mul-le-mul-left, mul-pos, one-le-pow}
+use mathlib.Core.List.{List, _∷_}
+use Prim.Native.Nat.{ℕ, zero, _+_, _*_, _/_, _^_, _≤_, _<_}
+use native.Mathlib.Nat.{mul-assoc, mul-le-mul-left, mul-pos}
 use native.Mathlib.Omega.{arith}
 use lib.Dec.{T, lit<, lit≤}
 use lib.Ieee.{Format, binary32, binary64}
@@ -11,6 +11,7 @@ use Rattle.exact.specs.Exact.{fact}
 use Rattle.exact.proofs.Poly.{h, scale}
 use Rattle.exact.proofs.Laws.{sub, fits, h-scale, h-lift, near, pow-mul}
 use Rattle.exact.proofs.Fixed.{total, cut-le, fx-total, fx, fx-le, le-fx, rescale, h-rescale}
+use Rattle.exact.proofs.Near.{P-den-pos}
 use Rattle.exact.proofs.Terms.{pcoef, f23}
 use Rattle.kernels.specs.Core.{ups}
 
@@ -106,5 +107,4 @@ pub frac-small : (f : Format) (s w : ℕ) → s ≤ w → frac f s w ≤ 2 ^ 64
 frac-small f s w l = omega (arith, cut-le s w (fx (ups f) s w) l, fx-total (ups f) s w l, total-ups f)
 
 pub den-pos : (w : ℕ) → zero < w → zero < den w
-unfolding f23
-den-pos w z = mul-pos {m = 25852016738884976640000} (lit< tt) (one-le-pow 23 (256 * w) (omega arith))
+den-pos w z = P-den-pos (256 * w) (mul-pos {m = 256} (lit< tt) z)

@@ -1,9 +1,8 @@
 -- 2 ^ K P(r) at two neighbouring arguments K ln 2 + r, also where K steps up between them. Assumes nothing.
-use mathlib.Core.Path.{_≡_, sym, ap}
+use mathlib.Core.Path.{_≡_}
 use mathlib.Core.Logic.{_⊎_, inl, inr}
-use mathlib.Core.List.{List}
 use Prim.Native.Nat.{ℕ, zero, suc, _+_, _-_, _*_, _^_, _≤_, _<_}
-use native.Mathlib.Nat.{le-trans, le-of-lt, mul-assoc, mul-left-comm, mul-le-mul, mul-le-mul-left, mul-le-mul-right, le-of-mul-le-mul-right, lt-of-mul-lt-mul-right, mul-lt-mul-of-pos-left, mul-pos, le-add-right, pow-succ'}
+use native.Mathlib.Nat.{le-trans, le-of-lt, mul-left-comm, mul-le-mul, mul-le-mul-left, mul-le-mul-right, le-of-mul-le-mul-right, lt-of-mul-lt-mul-right, mul-lt-mul-of-pos-left, mul-pos, le-add-right, pow-succ'}
 use native.Mathlib.Decide.{decLt}
 use native.Mathlib.Omega.{arith}
 use lib.Dec.{lit<, lit≤}
@@ -11,9 +10,9 @@ use lib.Pow.{pow-mono}
 use Rattle.exact.specs.Exact.{N}
 use Rattle.exact.proofs.Poly.{h}
 use Rattle.exact.proofs.Laws.{pow-mul}
-use Rattle.exact.proofs.Frac.{h-homog}
+use Rattle.exact.proofs.Frac.{h-homog, either}
 use Rattle.exact.proofs.Terms.{pcoef, f23}
-use Rattle.exact.proofs.Near.{h-grows, P-one, P-small, P-step, P-den-pos}
+use Rattle.exact.proofs.Near.{h-grows, P-one, P-small, P-step}
 
 -- Arguments are whole numbers of units, and 2 ^ 72 * b of them are one; ln 2 is N / 2 ^ 64
 abbrev pub unit : ℕ → ℕ
@@ -115,7 +114,7 @@ module _ (b : ℕ) (z : zero < b) where
   twice : (r r' : ℕ) → r ≤ span b → value b r ≤ 2 * value b r'
   twice r r' l = le-trans (h-grows 23 pcoef r (span b) (unit b) l) (le-trans (span-hi b) (mul-le-mul-left 2 (P-one r' (unit b))))
 
-  pub grows : (K r K' r' : ℕ) → r ≤ span b → r' < span b → K * span b + r ≤ K' * span b + r' → 2 ^ K * value b r ≤ 2 ^ K' * value b r'
+  grows : (K r K' r' : ℕ) → r ≤ span b → r' < span b → K * span b + r ≤ K' * span b + r' → 2 ^ K * value b r ≤ 2 ^ K' * value b r'
   grows K r K' r' m s l =
       elim (at-or-above K K' (whole-le (span b) K r K' r' s l)) [
         | inl e ↦ rw (← e) (mul-le-mul-left (2 ^ K) (h-grows 23 pcoef r r' (unit b) (rest (K * span b) r r' (rw (← e) at l))))
@@ -173,7 +172,7 @@ module _ (b : ℕ) (z : zero < b) where
         apart : (W K r r' d : ℕ) → r < W → suc K * W + r' ≤ K * W + r + d → W - r + r' ≤ d
         apart W K r r' d s l = omega arith
 
-    pub little-more : (K r K' r' d : ℕ) → r < span b → r' < span b → K * span b + r ≤ K' * span b + r' → K' * span b + r' ≤ K * span b + r + d
+    little-more : (K r K' r' d : ℕ) → r < span b → r' < span b → K * span b + r ≤ K' * span b + r' → K' * span b + r' ≤ K * span b + r + d
         → d * u ≤ unit b → 2 ^ K' * value b r' * u ≤ 2 ^ K * value b r * (u + 3)
     little-more K r K' r' d s s' l l' n =
         elim (at-or-above K K' (whole-le (span b) K r K' r' s' l)) [
@@ -194,3 +193,13 @@ module _ (b : ℕ) (z : zero < b) where
 
         one-more : (W K r K' r' d : ℕ) → r < W → d < W → K' * W + r' ≤ K * W + r + d → K < K' → K' ≡ suc K
         one-more W K r K' r' d s t l k = omega (arith, lt-of-mul-lt-mul-right W {m = K'} {n = K + 2} (omega arith))
+
+    -- either way round
+    pub close : (K r K' r' d : ℕ) → r < span b → r' < span b → K * span b + r ≤ K' * span b + r' + d → d * u ≤ unit b
+        → 2 ^ K * value b r * u ≤ 2 ^ K' * value b r' * (u + 3)
+    close K r K' r' d s s' l n =
+        elim (either (K * span b + r) (K' * span b + r'))
+        [ inl o ↦ looser (2 ^ K * value b r) (2 ^ K' * value b r') u (grows K r K' r' (le-of-lt s) s' o) | inr o ↦ little-more K' r' K r d s' s o l n ]
+      where
+        looser : (x y u : ℕ) → x ≤ y → x * u ≤ y * (u + 3)
+        looser x y u l = omega (arith, mul-le-mul-right u l)

@@ -2,9 +2,8 @@
 -- Assumes nothing.
 use mathlib.Core.Path.{_≡_, refl, sym, ap, ap₂, _∙_, subst}
 use mathlib.Core.Bool.{Bool, true, false, not, _&&_, Bool·beq, cond}
-use mathlib.Core.Logic.{_⊎_, inl, inr}
 use Prim.Native.Nat.{ℕ, zero, suc, _+_, _-_, _*_, _/_, _%_, _^_, _≤_, _<_, min}
-use native.Mathlib.Nat.{add-zero, zero-mul, le-antisymm, le-trans, le-of-eq, le-of-lt, lt-of-lt-of-le, lt-of-le-of-lt, lt-irrefl, mul-assoc, mul-comm, mul-le-mul-right, mul-le-mul-left, mul-lt-mul-of-pos-right, div-add-mod', mod-lt, mod-eq-of-lt, div-le-self, add-mod-right, add-mul, div-lt-iff-lt-mul, mul-one, one-mul, mod-one}
+use native.Mathlib.Nat.{add-zero, zero-mul, le-antisymm, le-trans, le-of-eq, le-of-lt, lt-of-lt-of-le, lt-of-le-of-lt, lt-irrefl, mul-assoc, mul-comm, mul-le-mul-right, mul-le-mul-left, mul-lt-mul-of-pos-right, div-add-mod', mod-lt, mod-eq-of-lt, div-le-self, add-mod-right, add-mul, div-lt-iff-lt-mul, one-mul, mod-one}
 use native.Mathlib.Omega.{arith}
 use borrow.Author.Tests.{lt-ltb, le-ltb, ltb-true, ltb-false}
 use lib.Dec.{T, ltb, ltb→lt, nltb→le, eqb, eqb→eq, lit≤}

@@ -1,26 +1,21 @@
 -- The exact sum behind the fused result, in units of 2 ^ -2254, and what is left of it in 62 digits and a sticky bit. Assumes nothing.
 use mathlib.Core.Path.{_≡_, refl, sym, ap, ap₂, _∙_, subst}
-use mathlib.Core.Bool.{Bool, true, false, not, _||_, _&&_, Bool·beq, cond, true≢false, false≢true}
-use Prim.Native.Nat.{ℕ, zero, suc, _+_, _-_, _*_, _/_, _%_, _^_, _≤_, _<_}
-use native.Mathlib.Nat.{le-refl, le-trans, le-of-eq, le-of-lt, lt-of-lt-of-le, lt-of-le-of-lt, lt-of-not-le, lt-irrefl, mul-assoc, mul-comm, mul-left-comm, mul-pos, mul-le-mul-right, mul-lt-mul-of-pos-right, le-div-iff-mul-le, mod-eq-of-lt, mod-one, add-assoc, sub-add-cancel}
+use mathlib.Core.Bool.{Bool, true, false, not, _&&_, Bool·beq, cond}
+use Prim.Native.Nat.{ℕ, zero, suc, _+_, _-_, _*_, _%_, _^_, _≤_, _<_}
+use native.Mathlib.Nat.{le-trans, le-of-eq, lt-of-lt-of-le, mul-assoc, mul-comm, mul-left-comm, mul-pos, mul-le-mul-right, mod-eq-of-lt}
 use native.Mathlib.Omega.{arith}
-use borrow.Author.Tests.{lt-ltb, le-ltb}
-use lib.Dec.{T, ltb, ltb→lt, nltb→le, eqb, eqb→eq, lit≤}
-use lib.IntN.{ℤ}
-use lib.Pow.{pow-pos, pow-add, pow-mono, shl-lt}
-use lib.Ieee.{Float, nan, inf, fin, Format, binary32, binary64, prec, low, up, down, unlike, size, round, sum, fits, eq}
+use lib.Dec.{T, ltb, ltb→lt, nltb→le, lit≤}
+use lib.Pow.{pow-pos, pow-add, shl-lt}
+use lib.Ieee.{Float, nan, inf, fin, Format, binary64, up, down, unlike, size, sum, fits, eq}
 use lib.Ieee.Digits.{size-lt, size-le, size-reaches}
 use lib.Ieee.Exact.{HasValue}
-use lib.Ieee.Fits.{down-pos, kept-lt}
-use lib.Ieee.Scale.{finite, round-same}
+use lib.Ieee.Fits.{down-pos}
+use lib.Ieee.Scale.{finite}
 use Rattle.rounding.proofs.Place.{size-pos}
-use Rattle.rounding.proofs.Basics.{not-eqb}
-use Rattle.rounding.proofs.Sticky.{Cut, cut-rounds, cut-again, keeps}
-use Rattle.rounding.proofs.Sum.{sumSign, sumSize, sum-is, sum-same}
-use Rattle.soft.specs.declared.pack.Scaled.{Scaled}
+use Rattle.rounding.proofs.Sum.{sumSign, sumSize, sum-same}
 use Rattle.soft.specs.Fma.{times, plus, fmaDef}
 use Rattle.soft.specs.Units.{unitsDef}
-use Rattle.soft.specs.Steps.{Full, Ready, squeezeDef}
+use Rattle.soft.specs.Steps.{Full, Ready}
 use Rattle.soft.proofs.units.Value.{measured, digits-lt, places-lt, digits-pos}
 use Rattle.soft.proofs.fma.Special.{zero-float, has-digits}
 

@@ -2,12 +2,10 @@
 use mathlib.Core.Path.{_≡_, refl, sym, ap, _∙_, subst}
 use mathlib.Core.Bool.{Bool}
 use Prim.Native.Nat.{ℕ, _+_, _-_, _*_, _^_, _≤_, _<_}
-use native.Mathlib.Nat.{le-trans, le-of-eq, le-of-lt, lt-of-lt-of-le, lt-of-le-of-lt, mul-le-mul, mul-le-mul-left, mul-le-mul-right, mul-lt-mul-of-pos-right, mul-assoc, mul-comm, mul-left-comm}
+use native.Mathlib.Nat.{le-of-lt, lt-of-le-of-lt, mul-le-mul, mul-le-mul-left, mul-lt-mul-of-pos-right, mul-assoc, mul-comm, mul-left-comm}
 use native.Mathlib.Omega.{arith}
-use lib.Dec.{lit≤}
 use lib.Pow.{pow-add, pow-pos}
 use Rattle.rounding.proofs.Sticky.{Cut}
-use Rattle.rounding.proofs.Sum.{sumSign, sumSize}
 use Rattle.soft.specs.declared.fma.Sum.{Sum}
 use Rattle.soft.specs.declared.pack.Scaled.{Scaled}
 use Rattle.soft.specs.Steps.{Full, Merged}

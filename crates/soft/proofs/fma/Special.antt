@@ -1,18 +1,18 @@
 -- Where an operand is no number, endless or zero, the machine's own operations give the fused result. Assumes nothing.
-use mathlib.Core.Path.{_≡_, refl, sym, ap, _∙_, subst}
-use mathlib.Core.Bool.{Bool, true, false, not, _&&_, _||_, Bool·beq, cond, true≢false, false≢true}
-use Prim.Native.Nat.{ℕ, zero, suc, _+_, _-_, _*_, _≤_, _<_}
+use mathlib.Core.Path.{_≡_, refl, sym, ap, _∙_}
+use mathlib.Core.Bool.{Bool, true, false, _&&_, _||_, Bool·beq, cond, true≢false, false≢true}
+use Prim.Native.Nat.{ℕ, zero, suc, _+_, _-_, _*_, _<_}
 use native.Mathlib.Omega.{arith}
-use native.Mathlib.Nat.{add-zero, zero-mul, mul-zero, mul-one, lt-irrefl, suc-ne-zero, one-mul, mul-assoc, mul-comm, mul-left-comm, mul-pos, zero-lt-suc, le-of-lt}
+use native.Mathlib.Nat.{add-zero, zero-mul, mul-zero, lt-irrefl, suc-ne-zero, mul-pos, zero-lt-suc, le-of-lt}
 use borrow.Author.Tests.{lt-ltb, le-ltb, eqb-true}
-use lib.Dec.{T, ltb, eqb, eqb·suc-zero, lit≤}
-use lib.IntN.{ℤ, pos, negsuc}
+use lib.Dec.{ltb, eqb, lit≤}
+use lib.IntN.{ℤ, pos}
 use lib.Ieee.{Float, nan, inf, fin, Format, binary32, binary64, unlike, up, down, round, sum, add, mul, eq}
 use lib.Ieee.Fits.{up-pos, down-pos}
 use lib.Ieee.Scale.{finite, round-same}
 use Rattle.rounding.proofs.Basics.{pos-of}
 use Rattle.rounding.proofs.Sum.{sumSign, sumSize, sum-is, sum-same}
-use Rattle.soft.specs.Fma.{Exact, invalid, infinite, ratio, times, plus, fmaDef}
+use Rattle.soft.specs.Fma.{invalid, infinite, times, plus, fmaDef}
 
 -- ---- an infinity or a NaN among the factors
 pick : (f : Format) (b : Bool) (s : Bool) (z : Float) → add f (cond b nan (inf s)) z ≡ plus f (cond b invalid (infinite s)) z

@@ -1,14 +1,12 @@
 -- The whole way of `fma` for finite operands that are not zero: measured, merged, squeezed and placed. Assumes nothing.
-use mathlib.Core.Path.{_≡_, refl, sym, ap, ap₂, _∙_, subst}
+use mathlib.Core.Path.{_≡_, sym, ap, ap₂, _∙_, subst}
 use mathlib.Core.Bool.{Bool, true, false, not}
-use Prim.Native.Nat.{ℕ, _+_, _*_, _^_, _≤_, _<_}
-use native.Mathlib.Nat.{le-trans}
-use native.Mathlib.Omega.{arith}
+use Prim.Native.Nat.{_+_, _*_, _^_}
 use borrow.Author.Tests.{not-true, not-false}
 use lib.Dec.{T}
 use lib.Ieee.{Float, Format, binary64, unlike, round, sum, fits, eq}
 use lib.Ieee.Scale.{finite}
-use Rattle.rounding.proofs.Sum.{sumSign, sumSize, sum-is}
+use Rattle.rounding.proofs.Sum.{sumSize, sum-is}
 use Rattle.wide.specs.Value.{valueOf}
 use Rattle.soft.specs.declared.fma.Sum.{Sum}
 use Rattle.soft.specs.declared.pack.Scaled.{Scaled}

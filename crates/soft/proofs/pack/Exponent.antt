@@ -1,12 +1,12 @@
 -- The signed exponent e counted from 2 ^ -2254, where nothing is negative. Assumes nothing.
-use mathlib.Core.Path.{_≡_, refl, sym, ap, _∙_, subst}
+use mathlib.Core.Path.{_≡_, sym, ap, _∙_}
 use mathlib.Core.Bool.{Bool, true, false, cond, true≢false, false≢true}
-use Prim.Native.Nat.{ℕ, zero, suc, _+_, _-_, _*_, _^_, _≤_, _<_}
-use native.Mathlib.Nat.{mul-one, one-mul, mul-comm}
+use Prim.Native.Nat.{ℕ, suc, _+_, _-_, _*_, _^_, _≤_, _<_}
+use native.Mathlib.Nat.{mul-one, one-mul}
 use native.Mathlib.Omega.{arith}
-use lib.Dec.{T, leb, ltb, leb→le, le→leb, leb·zero}
-use lib.IntN.{ℤ, pos, negsuc, natAbs, subℕ, _+ℤ_}
-use lib.Signed.{mag, leZ, ltZ, nonNeg}
+use lib.Dec.{T, ltb, leb→le, le→leb, leb·zero}
+use lib.IntN.{ℤ, pos, negsuc, natAbs, _+ℤ_}
+use lib.Signed.{leZ, ltZ, nonNeg}
 use lib.Arith.{le→nltb}
 use lib.Pow.{pow-add}
 use lib.Ieee.{up, down}

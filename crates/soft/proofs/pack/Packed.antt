@@ -1,16 +1,15 @@
 -- What `pack` hands to `place` rounds to what `packDef` asks. Assumes nothing.
 use mathlib.Core.Path.{_≡_, refl, sym, ap, _∙_, subst}
 use mathlib.Core.Bool.{Bool, true, false, not, cond, _||_, false≢true}
-use mathlib.Core.Logic.{_⊎_, inl, inr}
-use Prim.Native.Nat.{ℕ, zero, suc, _+_, _-_, _*_, _/_, _%_, _^_, _≤_, _<_}
-use native.Mathlib.Nat.{add-zero, add-assoc, mul-one, zero-mul, mul-assoc, mul-comm, mul-left-comm, le-trans, le-of-eq, lt-of-lt-of-le, lt-of-le-of-lt, mul-lt-mul-of-pos-right, mul-le-mul-right, mod-lt}
+use Prim.Native.Nat.{ℕ, suc, _+_, _*_, _/_, _%_, _^_, _≤_, _<_}
+use native.Mathlib.Nat.{add-zero, add-assoc, mul-one, zero-mul, mul-assoc, mul-comm, le-trans, le-of-eq, lt-of-lt-of-le, lt-of-le-of-lt, mul-lt-mul-of-pos-right, mul-le-mul-right}
 use native.Mathlib.Omega.{arith}
 use borrow.Author.Tests.{ltb-true}
-use lib.Dec.{T, eqb, eqb→eq, ltb, ltb→lt, nltb→le, leb→le, lit≤, lit<}
+use lib.Dec.{T, eqb, eqb→eq, ltb, ltb→lt, nltb→le, lit≤}
 use lib.IntN.{ℤ, pos, negsuc}
-use lib.Signed.{ltZ, leZ}
+use lib.Signed.{ltZ}
 use lib.Pow.{pow-pos, pow-add, pow-mono}
-use lib.Ieee.{Float, Format, binary32, binary64, prec, low, up, down, round}
+use lib.Ieee.{Format, binary32, binary64, low, up, down, round}
 use lib.Ieee.Fits.{down-pos}
 use lib.Ieee.Scale.{round-same}
 use Rattle.rounding.proofs.Basics.{pos-of, not-eqb}

@@ -1,13 +1,13 @@
 -- The float that a pattern and a sign make, once over the format. Assumes nothing.
-use mathlib.Core.Path.{_≡_, refl, sym, ap, _∙_, subst}
+use mathlib.Core.Path.{_≡_, refl, sym, ap, _∙_}
 use mathlib.Core.Bool.{Bool, true, false, not, cond}
-use Prim.Native.Nat.{ℕ, zero, suc, _+_, _-_, _*_, _^_, _≤_, _<_, min, zero-le}
+use Prim.Native.Nat.{ℕ, _+_, _-_, _*_, _^_, _≤_, _<_, min, zero-le}
 use native.Mathlib.Nat.{zero-add}
 use native.Mathlib.Omega.{arith}
 use lib.Dec.{T, eqb}
 use lib.Ieee.{Format, prec, low, hid, ones, top, size, round, ofBits, nanBits}
 use lib.Ieee.Nearest.{closest}
-use Rattle.rounding.proofs.Place.{Range, place, normalised, patternOf, placedBits}
+use Rattle.rounding.proofs.Place.{place, normalised, placedBits}
 use Rattle.rounding.proofs.Pattern.{pattern-not-nan}
 
 pub placed-le : (g t h o v x : ℕ) → placedBits g t h o v x ≤ o * h

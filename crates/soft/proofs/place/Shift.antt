@@ -1,12 +1,12 @@
 -- The shift that rounds, and the sizes of what it makes. Assumes nothing.
-use mathlib.Core.Path.{_≡_, refl, sym, ap, _∙_, subst}
-use mathlib.Core.Bool.{Bool, true, false, cond}
+use mathlib.Core.Path.{_≡_, refl, sym, ap, _∙_}
+use mathlib.Core.Bool.{Bool, cond}
 use Prim.Native.Nat.{ℕ, zero, suc, _+_, _-_, _*_, _/_, _%_, _^_, _≤_, _<_, min, compare}
-use native.Mathlib.Nat.{mod-lt, le-of-lt, le-trans, le-of-eq, lt-of-lt-of-le, lt-of-le-of-lt, mul-le-mul-right, add-comm, div-le-self}
+use native.Mathlib.Nat.{le-of-lt, le-trans, lt-of-lt-of-le, mul-le-mul-right, div-le-self}
 use native.Mathlib.Omega.{arith}
-use lib.Dec.{eqb, eqb·suc-zero}
+use lib.Dec.{eqb·suc-zero}
 use lib.Pow.{pow-pos, pow-mono}
-use lib.Ieee.{size, nearest}
+use lib.Ieee.{size}
 use lib.Ieee.Fits.{nearest-le}
 use lib.Ieee.Nearest.{closest}
 use Rattle.rounding.proofs.Basics.{half-word, twice-half}

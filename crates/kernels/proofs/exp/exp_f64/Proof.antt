@@ -1,7 +1,6 @@
 -- `kernels::exp::exp_f64` meets its contract: a refusal, a saturated answer, or a power. Assumes nothing.
-use mathlib.Core.Path.{_≡_, sym, ap, _∙_}
+use mathlib.Core.Path.{sym, ap, _∙_}
 use mathlib.Core.Bool.{true, false}
-use native.Mathlib.Omega.{arith}
 use lib.Ieee.{binary64, ofBits, div}
 use borrow.Author.Needs.{needs}
 use Rattle.soft.proofs.units.Value.{holds}

@@ -1,9 +1,9 @@
 -- `kernels::power::biased` meets its contract: the two halves, with the borrow or the carry between them. Assumes nothing.
-use mathlib.Core.Path.{_≡_, refl, sym, ap, _∙_, subst}
-use mathlib.Core.Bool.{Bool, cond}
-use Prim.Native.Nat.{ℕ, _+_, _-_, _*_, _/_, _%_, _^_, _≤_, _<_}
+use mathlib.Core.Path.{sym, ap, _∙_}
+use mathlib.Core.Bool.{Bool}
+use Prim.Native.Nat.{_+_, _*_, _^_}
 use native.Mathlib.Omega.{arith}
-use Rattle.kernels.specs.Core.{BIAS, biased}
+use Rattle.kernels.specs.Core.{biased}
 use borrow.Author.Needs.{needs}
 use Rattle.kernels.proofs.power.biased.Statement.{statement}
 use Rattle.kernels.proofs.power.biased.Tie as tie

@@ -1,5 +1,5 @@
 -- `kernels::power::finish_f32` meets its contract, by the range of the signed exponent. Assumes nothing.
-use mathlib.Core.Path.{_≡_, _∙_}
+use mathlib.Core.Path.{_∙_}
 use Prim.Native.Nat.{ℕ, _/_, _^_, _<_}
 use native.Mathlib.Omega.{arith}
 use lib.Ieee.{binary32, ofBits, div}

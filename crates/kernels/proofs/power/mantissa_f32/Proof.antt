@@ -1,9 +1,7 @@
 -- `kernels::power::mantissa_f32` meets its contract: the series is Horner's, with the coefficients that the definition has. Assumes nothing.
-use mathlib.Core.Path.{_≡_, sym, ap, _∙_, subst}
-use Prim.Native.Nat.{ℕ, _+_, _^_, _≤_, _<_}
+use mathlib.Core.Path.{sym, subst}
+use Prim.Native.Nat.{ℕ, _^_, _<_}
 use native.Mathlib.Nat.{le-of-lt}
-use native.Mathlib.Omega.{arith}
-use lib.Dec.{lit<}
 use lib.Ieee.{binary32}
 use Rattle.kernels.proofs.table.Entries.{entry-lt}
 use Rattle.kernels.proofs.power.Range.{significant, mantissa-f32}

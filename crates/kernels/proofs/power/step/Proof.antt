@@ -1,9 +1,8 @@
 -- `kernels::power::step` meets its contract: the upper word of the product is at most p. Assumes nothing.
-use mathlib.Core.Path.{_≡_, refl, sym, ap, _∙_, subst}
-use Prim.Native.Nat.{ℕ, _+_, _-_, _*_, _/_, _%_, _^_, _≤_, _<_}
+use mathlib.Core.Path.{_≡_, ap}
+use Prim.Native.Nat.{ℕ, _+_, _*_, _^_, _≤_, _<_}
 use native.Mathlib.Omega.{arith}
 use native.Mathlib.Nat.{mul-le-mul-right, le-of-lt}
-use Rattle.wide.specs.Value.{valueOf}
 use Rattle.wide.proofs.Laws.{high-is}
 use borrow.Author.Needs.{needs}
 use Rattle.kernels.proofs.power.step.Statement.{statement}

@@ -1,5 +1,5 @@
 -- `kernels::table::entry_at` meets its contract: the constant is the list of the entries, which the check computes. Assumes nothing.
-use mathlib.Core.Path.{_≡_, refl, sym, ap, _∙_}
+use mathlib.Core.Path.{sym, ap, _∙_}
 use native.Mathlib.Omega.{arith}
 use borrow.Author.Needs.{needs}
 use Rattle.exact.specs.Exact.{P, taylor, fact}

@@ -1,15 +1,12 @@
 -- `soft::fma::fma_f64` meets its contract: the special operands by the machine's own operations, the rest by one rounding of the exact sum. Assumes nothing.
-use Prim.Native.Nat.{ℕ, _+_, _*_, _^_, _≤_, _<_}
-use mathlib.Core.Path.{_≡_, refl, sym, ap, _∙_, subst}
-use mathlib.Core.Bool.{Bool, true, false, not}
+use Prim.Native.Nat.{ℕ, _+_, _^_, _<_}
+use mathlib.Core.Path.{_∙_}
 use native.Mathlib.Omega.{arith}
-use lib.Dec.{T}
-use lib.Ieee.{Float, binary64, fits, eq, ofBits}
-use lib.Ieee.Scale.{finite}
+use lib.Ieee.{binary64, fits, ofBits}
 use borrow.Author.Needs.{needs}
 use Rattle.wide.specs.Value.{valueOf}
 use Rattle.soft.proofs.units.Value.{holds}
-use Rattle.soft.proofs.fma.Whole.{yes, no, Operand, operand-ready, fused-rounds}
+use Rattle.soft.proofs.fma.Whole.{yes, no, operand-ready, fused-rounds}
 use Rattle.soft.proofs.squeeze.Digits.{digits-fit, places-near}
 use Rattle.soft.proofs.fma.Special.{endless-left, endless-right, endless-third, zero-left, zero-right, zero-third}
 use Rattle.soft.proofs.fma.fma_f64.Statement.{statement}

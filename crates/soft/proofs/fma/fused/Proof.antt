@@ -1,5 +1,4 @@
 -- `soft::fma::fused` meets its contract: the product and the third number have 105 or 106 digits each, and `merge` adds them. Assumes nothing.
-use mathlib.Core.Path.{_≡_}
 use Prim.Native.Nat.{_+_, _*_, _^_}
 use native.Mathlib.Omega.{arith}
 use lib.Dec.{lit≤, lit<}

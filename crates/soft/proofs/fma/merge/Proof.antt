@@ -1,5 +1,5 @@
 -- `soft::fma::merge` meets its contract: by the signs and by which is the larger once both stand at one power. Assumes nothing.
-use mathlib.Core.Path.{_≡_, sym, ap, _∙_}
+use mathlib.Core.Path.{sym, _∙_}
 use borrow.Author.Needs.{needs}
 use Rattle.wide.specs.Value.{valueOf}
 use Rattle.soft.proofs.fma.Align.{like-merged, larger-merged, smaller-merged, low-word}

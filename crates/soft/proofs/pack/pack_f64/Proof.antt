@@ -1,18 +1,13 @@
 -- `soft::pack::pack_f64` meets its contract: far below the format it is a zero, and elsewhere what `place` rounds. Assumes nothing.
-use Prim.Native.Nat.{ℕ, _+_, _*_, _^_, _≤_, _<_}
-use mathlib.Core.Path.{_≡_, sym, ap, _∙_, subst}
-use mathlib.Core.Bool.{Bool, true, false}
-use native.Mathlib.Omega.{arith}
-use lib.Dec.{T}
+use Prim.Native.Nat.{_+_, _*_, _^_, _≤_, _<_}
+use mathlib.Core.Path.{sym, ap, _∙_, subst}
+use mathlib.Core.Bool.{true}
 use lib.IntN.{ℤ, negsuc}
-use lib.Signed.{leZ, ltZ}
+use lib.Signed.{ltZ}
 use lib.Ieee.{binary64, round}
-use mir.Syntax.{w64}
-use mir.Val.{SFits, toZ, ofZ}
 use mir.Facts.{toZ-ofZ}
 use borrow.Author.Needs.{needs}
 use Rattle.soft.specs.declared.pack.Scaled.{Scaled}
-use Rattle.soft.specs.Steps.{foldDef}
 use Rattle.soft.proofs.pack.Exponent.{Counts, in-reach, word, sum-fits, sum-near}
 use Rattle.soft.proofs.pack.Packed.{packed, fold-lt, fold-places, far-below}
 use Rattle.soft.proofs.pack.pack_f64.Statement.{statement}

@@ -1,14 +1,13 @@
 -- `soft::pack::pack_wide_f32` meets its contract: far below the format it is a zero, and elsewhere what `place` rounds of the first digits. Assumes nothing.
-use Prim.Native.Nat.{ℕ, _+_, _*_, _^_, _≤_, _<_}
-use mathlib.Core.Path.{_≡_, sym, ap, _∙_, subst}
-use mathlib.Core.Bool.{Bool, true, false}
+use Prim.Native.Nat.{_+_, _*_, _^_, _≤_}
+use mathlib.Core.Path.{sym, ap, _∙_, subst}
+use mathlib.Core.Bool.{true, false}
 use native.Mathlib.Omega.{arith}
 use lib.IntN.{ℤ, negsuc}
 use lib.Signed.{ltZ}
 use lib.Ieee.{binary32, round}
 use mir.Facts.{toZ-ofZ}
 use borrow.Author.Needs.{needs}
-use Rattle.wide.specs.declared.Wide.{Wide}
 use Rattle.wide.specs.Value.{valueOf}
 use Rattle.wide.proofs.Laws.{below}
 use Rattle.soft.specs.declared.pack.Scaled.{Scaled}

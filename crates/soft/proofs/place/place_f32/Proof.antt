@@ -1,5 +1,5 @@
 -- `soft::place::place_f32` meets its contract: the pattern is that of the nearest float, and no NaN's. Assumes nothing.
-use Prim.Native.Nat.{ℕ, _+_, _*_, _^_, _≤_, _<_}
+use Prim.Native.Nat.{ℕ, _+_, _*_, _^_, _≤_}
 use mathlib.Core.Path.{_≡_, refl, sym, subst}
 use native.Mathlib.Omega.{arith}
 use lib.Ieee.{binary32}

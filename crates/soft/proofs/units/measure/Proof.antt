@@ -1,5 +1,5 @@
 -- `soft::units::measure` meets its contract. Assumes nothing.
-use mathlib.Core.Path.{_≡_, ap, _∙_}
+use mathlib.Core.Path.{ap, _∙_}
 use Prim.Native.Nat.{ℕ, _^_}
 use borrow.Author.Needs.{needs}
 use Rattle.soft.specs.Units.{splitDef}

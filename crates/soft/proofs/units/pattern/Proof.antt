@@ -1,8 +1,6 @@
 -- `soft::units::pattern` meets its contract: only a NaN differs from itself. Assumes nothing.
 use mathlib.Core.Path.{_≡_, refl, sym, ap, _∙_}
-use mathlib.Core.Bool.{Bool, true, false, not}
-use lib.Dec.{T}
-use lib.Ieee.{Float, nan, inf, fin, binary64, isNan, ne, toBits}
+use lib.Ieee.{nan, binary64, toBits}
 use lib.Ieee.Compare.{differs-from-itself}
 use Rattle.soft.proofs.decode.Kind.{no-nan}
 use Rattle.soft.proofs.units.Value.{holds}
