@@ -1,4 +1,3 @@
--- What the proofs of `exp` show of its argument, and its special values.
+-- What the proofs of `exp` show of its argument.
 mod Cut
 mod Argument
-pub mod Values

@@ -1,6 +1,6 @@
 -- The two cores of the kernels over whole numbers: a power from a fixed-point argument, a fixed-point logarithm from a number. One table serves both.
 -- Units are 2 ^ -72, and the table's step is N of them. docs/KERNELS.md says all of this in words. Assumes nothing.
-use Prim.Native.Nat.{ℕ, zero, suc, _+_, _-_, _*_, _/_, _%_, _^_}
+use Prim.Native.Nat.{ℕ, zero, suc, _+_, _-_, _*_, _/_, _^_}
 use mathlib.Core.Bool.{Bool, true, false, cond}
 use mathlib.Core.List.{List, [], _∷_}
 use lib.Dec.{leb, eqb}

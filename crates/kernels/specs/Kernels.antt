@@ -1,11 +1,11 @@
 -- exp, ln and pow, to the last bit. A refusal (10) is the NaN, and nothing else is. Assumes nothing.
-use Prim.Native.Nat.{ℕ, zero, suc, _+_, _-_, _*_, _/_, _%_, _^_}
-use mathlib.Core.Bool.{Bool, true, false, not, _&&_, cond}
+use Prim.Native.Nat.{ℕ, zero, suc, _+_, _*_, _/_, _%_, _^_}
+use mathlib.Core.Bool.{Bool, true, false, _&&_, cond}
 use lib.Dec.{leb, ltb}
 use lib.IntN.{ℤ, pos}
 use lib.Ieee.{Float, nan, inf, fin, Format, emax, unlike, up, down, round, le}
 use Rattle.exact.specs.Exact.{N}
-use Rattle.kernels.specs.Core.{BIAS, biased, mantissa, Fixed, logarithm}
+use Rattle.kernels.specs.Core.{biased, mantissa, Fixed, logarithm}
 
 -- the float for M / 2 ^ 62 * 2 ^ (K - 2048): +0 below the normal range, +infinity above it, the nearest one within
 unfoldable pub finish : Format → (K M : ℕ) → Float

@@ -1,1 +1,34 @@
 -- What the steps inside ln and pow compute: no reader of a public contract needs these. Assumes nothing.
+use mathlib.Core.Path.{_≡_}
+use Prim.Native.Nat.{ℕ, _+_, _*_, _^_, _≤_, _<_}
+use lib.Ieee.{Float, nan, inf, fin, Format, size, minus}
+use mathlib.Core.Bool.{false}
+use Rattle.kernels.specs.Core.{entry, firstFrom, index, gap, below, Fixed, logAt, moved, logarithm}
+use Rattle.kernels.specs.declared.logarithm.Log.{Log}
+
+-- the first entry for the interval of m: none below it reaches m, and one of the next two does
+pub record Start (m r : ℕ) : Type 0 where
+  pub most : r ≤ 256
+  pub passed : (j : ℕ) → j < r → entry j < m
+  pub reached : m ≤ entry (r + 2)
+
+-- the logarithm of d * 2 ^ p smallest doubles, 2 ^ -1074
+unfoldable pub logUnits : Format → (d p : ℕ) → Fixed
+unfolding firstFrom gap below
+logUnits f d p =
+    let i = index (moved d) in
+    logAt (minus (p + size d) 1075) i (below f (gap i (moved d)))
+
+-- that of a float
+unfoldable pub logOf : Format → Float → Fixed
+unfolding logarithm
+logOf f nan = record { negative = false; mag = 0 }
+logOf f (inf s) = record { negative = false; mag = 0 }
+logOf f (fin s m e) = logarithm f m e
+
+-- r in words of 50 and 32 digits
+pub record Logged (l : Fixed) (r : Log) : Type 0 where
+  pub sign : r .negative ≡ l .negative
+  pub is : r .high * 2 ^ 32 + r .low ≡ l .mag
+  pub short : r .high < 2 ^ 50
+  pub rest : r .low < 2 ^ 32

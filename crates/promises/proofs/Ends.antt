@@ -1,4 +1,4 @@
--- exp's exact values and its ends: 1 at 0, +infinity and +0 from 89 or 710 on, and at most 1 below 0. pow cites them of `fromPower`. Assumes nothing.
+-- The power at its ends and at 0: +infinity and +0 from 89 or 710 on, 1 at 0, and at most 1 below 0. Assumes nothing.
 use mathlib.Core.Path.{_≡_, refl, sym, _∙_, subst}
 use mathlib.Core.Bool.{Bool, true, false, not}
 use mathlib.Core.Logic.{_⊎_, inl, inr}
@@ -14,9 +14,9 @@ use lib.Ieee.Order.{round-mono}
 use Rattle.exact.specs.Exact.{N, P, taylor, fact}
 use Rattle.kernels.specs.Core.{entry, ups, horner, mantissa, BIAS}
 use Rattle.kernels.specs.Kernels.{finish, fromPower, cut, expDef}
-use Rattle.promises.specs.Kernels.{one, ended, edge, ExpZero, ExpEnds}
-use Rattle.kernels.proofs.power.Range.{mantissa-range}
-use Rattle.kernels.proofs.power.Finish.{at-low, at-high, at-mid, past, before}
+use Rattle.promises.specs.Kernels.{one, ended, edge, ExpEnds}
+use Rattle.kernels.proofs.Cases.{at-low, at-high, at-mid, past, before}
+use Rattle.promises.proofs.power.Near.{mantissa-in}
 
 lt-or-ge : (a b : ℕ) → (a < b) ⊎ (b ≤ a)
 lt-or-ge a b = go (ltb a b) (ltb→lt a b) (nltb→le a b)
@@ -32,10 +32,6 @@ power-zero binary32 true = refl
 power-zero binary32 false = refl
 power-zero binary64 true = refl
 power-zero binary64 false = refl
-
-pub exp-zero : (f : Format) → ExpZero f
-unfolding expDef
-exp-zero f s = power-zero f s
 
 -- ---- far from 0: the argument 89 or 710, and a little below it, since pow's is cut
 abbrev pub least : Format → ℕ
@@ -108,7 +104,7 @@ pub under-power : (f : Format) (mag : ℕ) → T (le (fromPower f true mag) one)
 unfolding le
 under-power f zero = subst (λ (x : Float). T (le x one)) (sym (power-zero f true)) tt
 under-power f (suc n) = elim (lt-or-ge (suc n) (2 ^ 82)) [
-  | inl l ↦ subst (λ (x : Float). T (le x one)) (sym (before f true (suc n) l)) (finish-under f (Y / N / 256) (mantissa f (Y / N % 256) (Y % N)) (mantissa-range f (Y / N % 256) (Y % N) (mod-lt (Y / N) (lit< tt)) (le-of-lt (mod-lt Y (lit< tt))) .1) (small n))
+  | inl l ↦ subst (λ (x : Float). T (le x one)) (sym (before f true (suc n) l)) (finish-under f (Y / N / 256) (mantissa f (Y / N % 256) (Y % N)) (mantissa-in f (Y / N % 256) (Y % N) (mod-lt (Y / N) (lit< tt)) (mod-lt Y (lit< tt)) .1) (small n))
   | inr g ↦ subst (λ (x : Float). T (le x one)) (sym (past f true (suc n) g)) zero-below
 ]
   where

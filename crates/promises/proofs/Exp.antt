@@ -1,27 +1,19 @@
 -- exp within document 01's distance of E: the argument is cut to a whole number of 2 ^ -72. Assumes nothing.
-use mathlib.Core.Path.{_≡_, sym, ap, subst}
-use mathlib.Core.Bool.{Bool, false, cond}
+use mathlib.Core.Path.{_≡_, sym, subst}
+use mathlib.Core.Bool.{Bool}
 use Prim.Native.Nat.{ℕ, _+_, _*_, _/_, _%_, _^_, _≤_, _<_}
 use native.Mathlib.Nat.{le-trans, le-of-eq, le-of-lt, mul-le-mul-right, le-of-mul-le-mul-right, div-mul-le-self, lt-div-mul-add, mod-lt}
 use native.Mathlib.Omega.{arith}
-use borrow.Author.Tests.{lt-leb}
 use lib.Dec.{lit<, lit≤}
-use lib.IntN.{pos}
-use lib.Ieee.{Float, inf, fin, Format, binary32, binary64, up, down}
+use lib.Ieee.{Float, Format, binary32, binary64, up, down}
 use lib.Ieee.Fits.{down-pos}
 use Rattle.exact.specs.Exact.{N, E}
 use Rattle.kernels.specs.Core.{biased, mantissa}
-use Rattle.kernels.specs.Kernels.{finish, fromPower, cut, expDef}
+use Rattle.kernels.proofs.Cases.{before}
+use Rattle.kernels.specs.Kernels.{fromPower, cut, expDef}
 use Rattle.promises.specs.Kernels.{Near, ExpNear, powerBits, reach}
 use Rattle.promises.proofs.Finish.{finish-near, exponent-in}
 use Rattle.promises.proofs.Cores.{PowerNear, MantissaIn, slack}
-
--- below the saturation, fromPower is `finish` of the core
-pub unsaturated : (f : Format) (neg : Bool) (mag : ℕ) → mag < 2 ^ 82
-    → fromPower f neg mag ≡ finish f (biased neg mag / N / 256) (mantissa f (biased neg mag / N % 256) (biased neg mag % N))
-unfolding fromPower
-unsaturated f neg mag h =
-    ap (λ (b : Bool). cond b (cond neg (fin false 0 (pos 0)) (inf false)) (finish f (biased neg mag / N / 256) (mantissa f (biased neg mag / N % 256) (biased neg mag % N)))) (lt-leb (2 ^ 82) mag h)
 
 within : (f : Format) (mag : ℕ) → mag ≤ reach f * 2 ^ 72 + 2 ^ 26 → mag < 2 ^ 82
 within binary32 mag h = omega arith
@@ -34,7 +26,7 @@ power-near f core mant neg a b mag z h lo hi =
     let s = biased neg mag % N in
     let r = mant (J % 256) s (mod-lt J (lit< tt)) (mod-lt (biased neg mag) (lit< tt)) in
     let e = exponent-in f neg mag h in
-    subst (λ (y : Float). Near (powerBits f) y (E neg a b)) (sym (unsaturated f neg mag (within f mag h)))
+    subst (λ (y : Float). Near (powerBits f) y (E neg a b)) (sym (before f neg mag (within f mag h)))
     (finish-near f (J / 256) (mantissa f (J % 256) s) (E neg a b) (r .0) (r .1) (e .0) (e .1) (core neg a b mag z (within f mag h) lo hi))
 
 -- ---- the cut argument

@@ -1,12 +1,10 @@
 -- From the power's core to the float: where M * 2 ^ K / 2 ^ 2110 is near a fraction, so is the float that `finish` rounds it to. Assumes nothing.
 use mathlib.Core.Path.{_≡_, refl, sym, ap, _∙_, subst}
-use mathlib.Core.Bool.{Bool, true, false, cond, true≢false}
+use mathlib.Core.Bool.{Bool, true, false, true≢false}
 use Prim.Native.Nat.{ℕ, suc, _+_, _-_, _*_, _/_, _^_, _≤_, _<_}
 use native.Mathlib.Nat.{le-trans, le-of-eq, le-of-lt, lt-of-le-of-lt, mul-assoc, mul-comm, mul-left-comm, mul-pos, mul-le-mul-left, mul-le-mul-right, le-of-mul-le-mul-right, eq-of-mul-eq-mul-right}
 use native.Mathlib.Omega.{arith}
-use borrow.Author.Tests.{le-ltb}
-use lib.Dec.{ltb, lit≤}
-use lib.IntN.{pos}
+use lib.Dec.{lit≤}
 use lib.Pow.{pow-pos, pow-add, pow-lt}
 use lib.Ieee.{Float, nan, inf, fin, Format, binary32, binary64, prec, emax, low, up, down, round}
 use lib.Ieee.Exact.{HasValue}
@@ -14,6 +12,7 @@ use lib.Ieee.Nearest.{closest}
 use Rattle.exact.specs.Exact.{Frac, N}
 use Rattle.kernels.specs.Core.{biased}
 use Rattle.kernels.specs.Kernels.{finish}
+use Rattle.kernels.proofs.Cases.{at-mid}
 use Rattle.rounding.proofs.Closest.{closest-near}
 use Rattle.rounding.proofs.Place.{Range, placed-value, kept-le}
 use Rattle.promises.specs.Kernels.{Near, powerBits, reach}
@@ -61,13 +60,6 @@ digits : (f : Format) → 2 ^ 62 * 2 ≡ 2 ^ dOf f * 2 ^ prec f
 digits binary32 = refl
 digits binary64 = refl
 
--- ---- within the normal range `finish` is one rounding
-inside : (f : Format) (K M : ℕ) → 2049 ≤ K + emax f → K < 2048 + emax f → finish f K M ≡ round f false (M * 2 ^ K) (2 ^ 2110)
-unfolding finish
-inside f K M a b =
-    ap (λ (c : Bool). cond c (fin false 0 (pos 0)) (cond (ltb (2048 + emax f) K) (inf false) (round f false (M * 2 ^ K) (2 ^ 2110)))) (le-ltb (K + emax f) 2049 a)
-    ∙ ap (λ (c : Bool). cond c (inf false) (round f false (M * 2 ^ K) (2 ^ 2110))) (le-ltb (2048 + emax f) K (le-of-lt b))
-
 module _ (f : Format) (K M : ℕ) (lo : 2 ^ 62 ≤ M) (hi : M < 2 ^ 63) (a : 2049 ≤ K + emax f) (b : K < 2048 + emax f) where
   -- the significand that is kept
   abbrev kept : ℕ
@@ -84,7 +76,7 @@ module _ (f : Format) (K M : ℕ) (lo : 2 ^ 62 ≤ M) (hi : M < 2 ^ 63) (a : 204
 
   value : HasValue (finish f K M) false (kept * 2 ^ (K - tOf f)) (2 ^ low f)
   value =
-      subst (λ (y : Float). HasValue y false (kept * 2 ^ (K - tOf f)) (2 ^ low f)) (ap (λ (x : ℕ). round f false (M * 2 ^ K) (2 ^ x)) (whole f) ∙ sym (inside f K M a b))
+      subst (λ (y : Float). HasValue y false (kept * 2 ^ (K - tOf f)) (2 ^ low f)) (ap (λ (x : ℕ). round f false (M * 2 ^ K) (2 ^ x)) (whole f) ∙ sym (at-mid f K M a (le-of-lt b)))
       (subst (λ (x : ℕ). HasValue (round f false (M * 2 ^ K) (2 ^ (low f + gOf f))) false (closest M (2 ^ x) * 2 ^ (K - tOf f)) (2 ^ low f)) (shift-is f K tl)
       (placed-value f (gOf f) (tOf f) M K (range f) lo hi false (subst (λ (x : ℕ). closest M (2 ^ x) * 2 ^ (K - tOf f) < 2 ^ (low f + suc (emax f))) (sym (shift-is f K tl)) under)))
 

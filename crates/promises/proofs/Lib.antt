@@ -5,6 +5,8 @@ pub mod Exp
 pub mod Ends
 pub mod Ln
 pub mod Pow
+pub mod Values
 pub mod Refusals
 pub mod power
 pub mod logarithm
+pub mod Kernels

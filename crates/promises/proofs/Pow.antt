@@ -1,18 +1,16 @@
 -- pow within document 01's distance of E(y L(x)): the argument is y times a logarithm that is itself a little off. Assumes nothing.
 use mathlib.Core.Path.{_≡_, sym, ap, _∙_, subst}
-use mathlib.Core.Bool.{Bool, true, false, _&&_, _||_, cond}
-use mathlib.Core.Logic.{_⊎_, inl, inr}
+use mathlib.Core.Bool.{Bool, false}
 use Prim.Native.Nat.{ℕ, suc, _+_, _-_, _*_, _/_, _^_, _≤_, _<_}
-use native.Mathlib.Nat.{le-trans, le-of-eq, le-of-lt, zero-lt-suc, mul-assoc, mul-comm, mul-left-comm, mul-one, add-mul, mul-pos, mul-le-mul-left, mul-le-mul-right, le-of-mul-le-mul-right, div-mul-le-self, lt-div-mul-add}
+use native.Mathlib.Nat.{le-trans, le-of-eq, le-of-lt, zero-lt-suc, mul-assoc, mul-comm, mul-left-comm, add-mul, mul-pos, mul-le-mul-left, mul-le-mul-right, le-of-mul-le-mul-right, div-mul-le-self, lt-div-mul-add}
 use native.Mathlib.Omega.{arith}
-use lib.Dec.{T, ltb, eqb, ltb→lt, eqb→eq, lit≤}
-use lib.IntN.{ℤ, pos}
-use lib.Ieee.{Float, nan, fin, Format, binary32, binary64, up, down, unlike, le}
-use lib.Ieee.Bits.{is-true}
+use lib.Dec.{lit≤}
+use lib.Ieee.{Float, fin, Format, binary32, binary64, up, down, unlike}
 use lib.Ieee.Fits.{down-pos}
 use Rattle.exact.specs.Exact.{E, L}
 use Rattle.kernels.specs.Core.{logarithm}
-use Rattle.kernels.specs.Kernels.{fromPower, cut, powered, powDef}
+use Rattle.kernels.proofs.Cases.{at-most-16, in-domain}
+use Rattle.kernels.specs.Kernels.{fromPower, cut, powDef}
 use Rattle.promises.specs.Kernels.{Near, PowNear, PowEnds, argument, powerBits, reach, edge, ended}
 use Rattle.promises.proofs.Cores.{PowerNear, MantissaIn, LogNear, LogarithmNear, slack, error}
 use Rattle.promises.proofs.Exp.{power-near}
@@ -29,34 +27,6 @@ slack-is binary64 = lit≤ tt
 slack-small : (f : Format) → slack f ≤ 2 ^ 26
 slack-small binary32 = lit≤ tt
 slack-small binary64 = lit≤ tt
-
--- |y| ≤ 16
-left-of : (a b : Bool) → T (a && b) → T a
-left-of true b t = tt
-left-of false b t = t
-
-right-of : (a b : Bool) → T (a && b) → T b
-right-of true b t = t
-right-of false b t = absurd t
-
-either : (a b : Bool) → T (a || b) → T a ⊎ T b
-either true b t = inl t
-either false b t = inr t
-
--- below 16, or equal to it
-at-most : (x b : ℕ) (c : Bool) → T (ltb x b || (eqb x b && c)) → x ≤ b
-at-most x b c t = elim (either (ltb x b) (eqb x b && c) t) [ inl l ↦ le-of-lt (ltb→lt x b l) | inr e ↦ le-of-eq (eqb→eq x b (left-of (eqb x b) c e)) ]
-
-reads : (n : ℕ) (d : ℤ) → n * up d * 1 ≤ 1 * 16 * down d → n * up d ≤ 16 * down d
-reads n d h = le-trans (le-of-eq (sym (mul-one (n * up d)))) h
-
-pub bounded : (t : Bool) (n : ℕ) (d : ℤ) → T (powered (fin t n d)) → n * up d ≤ 16 * down d
-unfolding le
-bounded true n d h = reads n d (flip (n * up d * 1) (1 * 16 * down d) (left-of (le (fin true 1 (pos 4)) (fin true n d)) (le (fin true n d) (fin false 1 (pos 4))) h))
-  where
-    flip : (x b : ℕ) → T (ltb x b || (eqb b x && true)) → x ≤ b
-    flip x b t = elim (either (ltb x b) (eqb b x && true) t) [ inl l ↦ le-of-lt (ltb→lt x b l) | inr e ↦ le-of-eq (sym (eqb→eq b x (left-of (eqb b x) true e))) ]
-bounded false n d h = reads n d (at-most (n * up d * 1) (1 * 16 * down d) true (right-of (le (fin true 1 (pos 4)) (fin false n d)) (le (fin false n d) (fin false 1 (pos 4))) h))
 
 -- numbers alone: y = x / b ≤ 16, the logarithm g against v / w
 module _ (x b g v w δ σ : ℕ) (zb : 0 < b) (y : x ≤ 16 * b) (room : 16 * δ + 1 ≤ σ) where
@@ -105,13 +75,6 @@ reaches q z a r t σ h k l c =
     more : (a σ : ℕ) → σ ≤ 2 ^ 26 → a + σ ≤ a + 2 ^ 26
     more a σ h = omega arith
 
--- in its domain pow is fromPower of y times the logarithm
-pub in-domain : (f : Format) (m : ℕ) (e : ℤ) (t : Bool) (n : ℕ) (d : ℤ) → T (powered (fin t n d))
-    → powDef f (fin false (suc m) e) (fin t n d) ≡ fromPower f (unlike (logarithm f (suc m) e .negative) t) (cut n d (logarithm f (suc m) e .mag))
-unfolding powDef
-in-domain f m e t n d h =
-    ap (λ (b : Bool). cond b (fromPower f (unlike (logarithm f (suc m) e .negative) t) (cut n d (logarithm f (suc m) e .mag))) nan) (is-true (powered (fin t n d)) h)
-
 pub pow-near : (f : Format) → PowerNear f → MantissaIn f → LogarithmNear f → PowNear f
 pow-near f core mant near m e t n d k l p r = at (near (suc m) e (zero-lt-suc m) (digits-below f m e k))
   where
@@ -124,9 +87,9 @@ pow-near f core mant near m e t n d k l p r = at (near (suc m) e (zero-lt-suc m)
         let x = n * up d in
         let b = down d in
         let z = mul-pos (down-pos d) (a .den-pos) in
-        let above = hi x b g v w (error f) (slack f) (down-pos d) (bounded t n d p) (slack-is f) (2 ^ 72) (a .above) in
-        let under = lo x b g v w (error f) (slack f) (down-pos d) (bounded t n d p) (slack-is f) (2 ^ 72) (a .below) in
-        subst (λ (y : Float). Near (powerBits f) y (E (unlike (L (suc m) e .negative) t) (x * v) (b * w))) (sym (in-domain f m e t n d p))
+        let above = hi x b g v w (error f) (slack f) (down-pos d) (at-most-16 t n d p) (slack-is f) (2 ^ 72) (a .above) in
+        let under = lo x b g v w (error f) (slack f) (down-pos d) (at-most-16 t n d p) (slack-is f) (2 ^ 72) (a .below) in
+        subst (λ (y : Float). Near (powerBits f) y (E (unlike (L (suc m) e .negative) t) (x * v) (b * w))) (sym (in-domain f m e (fin t n d) p))
         (subst (λ (s : Bool). Near (powerBits f) (fromPower f (unlike (logarithm f (suc m) e .negative) t) (cut n d g)) (E (unlike s t) (x * v) (b * w))) (a .sign)
         (power-near f core mant (unlike (logarithm f (suc m) e .negative) t) (x * v) (b * w) (cut n d g) z
         (reaches (cut n d g) (b * w) (x * v) (reach f) (2 ^ 72) (slack f) z above r (slack-small f)) under above))
@@ -150,7 +113,7 @@ pow-ends f near m e t n d k l p r = at (near (suc m) e (zero-lt-suc m) (digits-b
         let w = L (suc m) e .size .den in
         let x = n * up d in
         let b = down d in
-        let under = lo x b g v w (error f) (slack f) (down-pos d) (bounded t n d p) (slack-is f) (2 ^ 72) (a .below) in
-        in-domain f m e t n d p
+        let under = lo x b g v w (error f) (slack f) (down-pos d) (at-most-16 t n d p) (slack-is f) (2 ^ 72) (a .below) in
+        in-domain f m e (fin t n d) p
         ∙ power-ends f (unlike (logarithm f (suc m) e .negative) t) (cut n d g) (passes (cut n d g) (b * w) (x * v) (edge f) (2 ^ 72) (slack f) (mul-pos (down-pos d) (a .den-pos)) under r (slack-small f))
         ∙ ap (λ (s : Bool). ended (unlike s t)) (a .sign)

@@ -16,7 +16,7 @@ use Rattle.soft.specs.declared.units.Units.{Units}
 use Rattle.soft.specs.Units.{unitsDef}
 use Rattle.soft.proofs.units.Value.{measured, digits-lt, leading, holds}
 use Rattle.kernels.specs.Kernels.{fromPower, cut, expDef}
-use Rattle.kernels.proofs.power.Finish.{past}
+use Rattle.kernels.proofs.Cases.{past}
 
 -- ---- a negated test, on a flag r that says whether x is finite
 pub refused : (f : Format) (x : Float) (r : Bool) → r ≡ finite x → not r ≡ true → nan ≡ expDef f x

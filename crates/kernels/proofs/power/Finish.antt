@@ -1,46 +1,19 @@
--- `finish` below the normal range, above it and within, and `fromPower` of a number that does not saturate. Assumes nothing.
+-- `finish` as the code tests its signed exponent, and the power's steps joined. Assumes nothing.
 use mathlib.Core.Path.{_≡_, sym, ap, _∙_, subst}
-use mathlib.Core.Bool.{Bool, true, false, cond}
+use mathlib.Core.Bool.{Bool, true, false}
 use Prim.Native.Nat.{ℕ, _+_, _-_, _*_, _/_, _%_, _^_, _≤_, _<_}
 use native.Mathlib.Omega.{arith}
-use lib.Dec.{T, leb, ltb, lt→ltb, le→leb, lit≤}
-use lib.Arith.{le→nltb, lt→nleb}
+use lib.Dec.{T, lit≤}
 use lib.IntN.{ℤ, pos, negsuc, natAbs, subℕ, _+ℤ_}
 use lib.Signed.{ltZ, nonNeg}
 use lib.Ieee.{Float, inf, fin, Format, binary32, binary64, emax, round}
-use lib.Ieee.Bits.{is-true, is-false}
 use mir.Syntax.{w64}
 use mir.Val.{Fits, SFits}
 use Rattle.exact.specs.Exact.{N}
 use Rattle.kernels.specs.Core.{biased, mantissa}
 use Rattle.kernels.specs.Kernels.{finish, fromPower}
+use Rattle.kernels.proofs.Cases.{at-low, at-high, at-mid, before}
 use Rattle.kernels.proofs.power.SignedExponent.{word, low-yes, low-no, high-yes, high-no, moved-fits, moved-is, moved-cast}
-
-not-low : (f : Format) (K : ℕ) → 2048 + emax f < K → 2049 ≤ K + emax f
-not-low f K h = omega arith
-
-module _ (f : Format) (K M : ℕ) where
-  abbrev within : Float
-  within = round f false (M * 2 ^ K) (2 ^ 2110)
-
-  abbrev decided : Bool → Bool → Float
-  decided a b = cond a (fin false 0 (pos 0)) (cond b (inf false) within)
-
-  pub at-low : K + emax f < 2049 → finish f K M ≡ fin false 0 (pos 0)
-  unfolding finish
-  at-low h = ap (λ (b : Bool). decided b (ltb (2048 + emax f) K)) (is-true (ltb (K + emax f) 2049) (lt→ltb (K + emax f) 2049 h))
-
-  pub at-high : 2048 + emax f < K → finish f K M ≡ inf false
-  unfolding finish
-  at-high h =
-      ap (λ (b : Bool). decided b (ltb (2048 + emax f) K)) (is-false (ltb (K + emax f) 2049) (le→nltb (K + emax f) 2049 (not-low f K h)))
-      ∙ ap (decided false) (is-true (ltb (2048 + emax f) K) (lt→ltb (2048 + emax f) K h))
-
-  pub at-mid : 2049 ≤ K + emax f → K ≤ 2048 + emax f → finish f K M ≡ within
-  unfolding finish
-  at-mid a h =
-      ap (λ (b : Bool). decided b (ltb (2048 + emax f) K)) (is-false (ltb (K + emax f) 2049) (le→nltb (K + emax f) 2049 a))
-      ∙ ap (decided false) (is-false (ltb (2048 + emax f) K) (le→nltb (2048 + emax f) K h))
 
 -- ---- as the code tests the signed exponent z. E is the largest exponent of the format
 edges : (f : Format) → (2 ≤ emax f) × (emax f ≤ 2048)
@@ -91,19 +64,6 @@ module _ (f : Format) (K M : ℕ) (z : ℤ) (h : K < 2 ^ 13) (e : z ≡ subℕ K
           ap (λ (y : ℤ). round f false (M * 2 ^ (natAbs y + (2049 - emax f))) (2 ^ 2110)) sum-is
           ∙ ap (λ (x : ℕ). round f false (M * 2 ^ x) (2 ^ 2110)) (again K (emax f) (edges f .0) (edges f .1) (reach .0))
           ∙ sym (at-mid f K M (reach .0) (high-no K z h e (emax f) g))
-
--- ---- `fromPower`
-pub past : (f : Format) (s : Bool) (mag : ℕ) → 2 ^ 82 ≤ mag → fromPower f s mag ≡ cond s (fin false 0 (pos 0)) (inf false)
-unfolding fromPower
-past f s mag h =
-    let J = biased s mag / N in
-    ap (λ (b : Bool). cond b (cond s (fin false 0 (pos 0)) (inf false)) (finish f (J / 256) (mantissa f (J % 256) (biased s mag % N)))) (is-true (leb (2 ^ 82) mag) (le→leb (2 ^ 82) mag h))
-
-pub before : (f : Format) (s : Bool) (mag : ℕ) → mag < 2 ^ 82 → fromPower f s mag ≡ finish f (biased s mag / N / 256) (mantissa f (biased s mag / N % 256) (biased s mag % N))
-unfolding fromPower
-before f s mag h =
-    let J = biased s mag / N in
-    ap (λ (b : Bool). cond b (cond s (fin false 0 (pos 0)) (inf false)) (finish f (J / 256) (mantissa f (J % 256) (biased s mag % N)))) (is-false (leb (2 ^ 82) mag) (lt→nleb (2 ^ 82) mag h))
 
 -- the steps, joined
 pub joined : (f : Format) (s : Bool) (mag Y q r m : ℕ) (x : Float) → mag < 2 ^ 82 → Y ≡ biased s mag → q ≡ Y / N → r ≡ Y % N → m ≡ mantissa f (q % 256) r → x ≡ finish f (q / 256) m → x ≡ fromPower f s mag

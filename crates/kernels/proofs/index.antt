@@ -1,0 +1,3 @@
+-- What the search of the table finds.
+pub mod First
+mod Starts

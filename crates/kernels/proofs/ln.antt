@@ -1,0 +1,2 @@
+-- What the proofs of `ln` share.
+mod Answer

@@ -1,0 +1,3 @@
+-- What the proofs of `pow` share.
+mod Answer
+mod Product

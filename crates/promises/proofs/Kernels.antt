@@ -1,0 +1,28 @@
+-- All that is promised of exp, ln and pow. Assumes nothing.
+use lib.Ieee.{Format}
+use Rattle.promises.specs.Kernels.{Kernels}
+use Rattle.promises.proofs.Exp.{exp-near}
+use Rattle.promises.proofs.Ends.{exp-ends}
+use Rattle.promises.proofs.Ln.{ln-close}
+use Rattle.promises.proofs.Pow.{pow-near, pow-ends}
+use Rattle.promises.proofs.Values.{exp-zero, ln-one, pow-one, pow-zero, pow-at-most-one}
+use Rattle.promises.proofs.Refusals.{exp-refuses, ln-refuses, pow-refuses}
+use Rattle.promises.proofs.power.Near.{power-near, mantissa-in}
+use Rattle.promises.proofs.logarithm.Meets.{meets}
+
+pub kernels : (f : Format) → Kernels f
+kernels f = record {
+  exp-near = exp-near f (power-near f) (mantissa-in f);
+  exp-ends = exp-ends f;
+  exp-zero = exp-zero f;
+  exp-refuses = exp-refuses f;
+  ln-close = ln-close f (meets f);
+  ln-one = ln-one f;
+  ln-refuses = ln-refuses f;
+  pow-near = pow-near f (power-near f) (mantissa-in f) (meets f);
+  pow-ends = pow-ends f (meets f);
+  pow-one = pow-one f;
+  pow-zero = pow-zero f;
+  pow-at-most-one = pow-at-most-one f;
+  pow-refuses = pow-refuses f
+}
