@@ -5,8 +5,8 @@ ghost use Rattle.kernels.specs.Core.{index};
 ghost use Rattle.kernels.specs.LogSteps.{Start};
 use crate::table::entry_at;
 
-// By the 8 digits below the leading one: the first entry that is no smaller than any number with these digits.
-// That is two entries short at the most.
+// By the 8 digits below the leading one: the first entry that is no smaller than the smallest number with these digits.
+// The index of every such number is that, or one of the next two.
 const STARTS: [u16; 256] = [
     0,
     2,

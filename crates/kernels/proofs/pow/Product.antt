@@ -1,7 +1,7 @@
 -- The argument y L(x), cut to a whole number of units: in two cuts, of 32 digits and of the rest. Assumes nothing.
 use mathlib.Core.Path.{_≡_, sym, ap, ap₂, _∙_}
 use Prim.Native.Nat.{ℕ, _+_, _-_, _*_, _/_, _%_, _^_, _≤_, _<_}
-use native.Mathlib.Nat.{le-of-lt, lt-of-le-of-lt, mul-le-mul, mul-assoc, mul-comm, mul-left-comm, mul-div-mul-right, div-le-self, mod-eq-of-lt, mul-add-div-right}
+use native.Mathlib.Nat.{le-of-lt, lt-of-le-of-lt, mul-le-mul, mul-assoc, mul-comm, mul-div-mul-right, div-le-self, mod-eq-of-lt, mul-add-div-right}
 use native.Mathlib.Omega.{arith}
 use lib.Dec.{lit<}
 use lib.Pow.{pow-pos, pow-add, shr-shr}
@@ -26,7 +26,7 @@ second-cut d w p h =
     ∙ ap₂ (λ (x y : ℕ). x / y) (turn d w (2 ^ p)) (sym (pow-add 2 (32 + (1042 - p)) p) ∙ ap (λ (x : ℕ). 2 ^ x) (join p h))
   where
     turn : (d w k : ℕ) → d * w * k ≡ d * k * w
-    turn d w k = simp (mul-assoc, mul-comm, mul-left-comm)
+    turn d w k = simp (mul-assoc, mul-comm)
 
     join : (p : ℕ) → p ≤ 1042 → 32 + (1042 - p) + p ≡ 1074
     join p h = omega arith
