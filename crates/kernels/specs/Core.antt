@@ -6,12 +6,8 @@ use mathlib.Core.List.{List, [], _∷_}
 use lib.Dec.{leb, eqb}
 use lib.IntN.{ℤ, pos, negsuc, _+ℤ_}
 use lib.Ieee.{Format, binary32, binary64, size}
-use Rattle.exact.specs.Exact.{N, P, fact}
-
--- ---- the table: entry i is the whole part of 2 ^ 62 P(i N / 2 ^ 72), for i below 256; 2 ^ 63 stands at 256
-unfoldable pub entry : ℕ → ℕ
-unfolding P
-entry i = cond (eqb i 256) (2 ^ 63) (2 ^ 62 * P (i * N) (2 ^ 72) .num / P (i * N) (2 ^ 72) .den)
+use Rattle.exact.specs.Exact.{N, fact}
+use Rattle.table.specs.Entry.{entry}
 
 -- ---- the coefficients, c 1, c 2, .. c n. Single results take shorter chains
 abbrev run : (ℕ → ℕ) → (j n : ℕ) → List ℕ

@@ -6,4 +6,3 @@ pub mod ln;
 mod logarithm;
 pub mod pow;
 mod power;
-mod table;

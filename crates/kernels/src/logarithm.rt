@@ -11,7 +11,7 @@ ghost use Rattle.wide.specs.Value.{valueOf};
 ghost use Rattle.kernels.specs.Core.{high, index, gap, below, logAt};
 ghost use Rattle.kernels.specs.LogSteps.{logUnits, logOf, Logged};
 use crate::index::index_of;
-use crate::table::entry_at;
+use table::entry_at;
 use soft::units::measure;
 use wide::Wide;
 

@@ -9,7 +9,7 @@ ghost use Rattle.exact.specs.Exact.{N};
 ghost use Rattle.kernels.specs.Core as Core;
 ghost use Rattle.kernels.specs.Kernels.{finish, fromPower};
 ghost use Rattle.kernels.specs.PowerSteps.{Holds, Divided, Significand};
-use crate::table::entry_at;
+use table::entry_at;
 
 // high * 2^32 + low.
 pub struct Words {

@@ -12,7 +12,8 @@ use lib.Ieee.{Float, inf, fin, Format, binary32, binary64, emax, up, down, round
 use lib.Ieee.Fits.{down-pos}
 use lib.Ieee.Order.{round-mono}
 use Rattle.exact.specs.Exact.{N, P, taylor, fact}
-use Rattle.kernels.specs.Core.{entry, ups, horner, mantissa, BIAS}
+use Rattle.table.specs.Entry.{entry}
+use Rattle.kernels.specs.Core.{ups, horner, mantissa, BIAS}
 use Rattle.kernels.specs.Kernels.{finish, fromPower, cut, expDef}
 use Rattle.promises.specs.Kernels.{one, ended, edge, ExpEnds}
 use Rattle.kernels.proofs.Cases.{at-low, at-high, at-mid, past, before}

@@ -15,7 +15,8 @@ use lib.Ieee.Fits.{and-l, and-r, down-pos}
 use mir.Facts.{or-yes}
 use Rattle.rounding.proofs.Pattern.{pow-lt-back}
 use Rattle.rounding.proofs.Place.{round-none}
-use Rattle.kernels.specs.Core.{entry, firstFrom, horner, index, gap, below, Fixed, logAt, moved, logarithm}
+use Rattle.table.specs.Entry.{entry}
+use Rattle.kernels.specs.Core.{firstFrom, horner, index, gap, below, Fixed, logAt, moved, logarithm}
 use Rattle.kernels.specs.Kernels.{fromPower, cut, powered, powAt, expDef, lnDef}
 use Rattle.kernels.proofs.Cases.{powered-finite, in-domain}
 use Rattle.promises.specs.Kernels.{one, ExpZero, LnOne, PowOne, PowZero, PowAtMostOne}

@@ -7,9 +7,10 @@ use native.Mathlib.Nat.{le-trans, le-of-eq, le-antisymm, lt-irrefl, lt-of-lt-of-
 use native.Mathlib.Omega.{arith}
 use lib.Dec.{T, leb, leb→le, nleb→lt}
 use Rattle.exact.specs.Exact.{P, taylor, fact}
-use Rattle.kernels.specs.Core.{entry, firstFrom, index}
-use Rattle.kernels.proofs.table.Every.{every, at}
-use Rattle.kernels.proofs.table.Entries.{powers, entry-at, entry-last}
+use Rattle.table.specs.Entry.{entry}
+use Rattle.kernels.specs.Core.{firstFrom, index}
+use Rattle.table.proofs.Every.{every, at}
+use Rattle.table.proofs.Entries.{powers, entry-at, entry-last}
 
 -- ---- the entries ascend
 climbs : ℕ → ℕ → Bool

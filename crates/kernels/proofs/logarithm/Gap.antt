@@ -12,9 +12,10 @@ use Rattle.exact.specs.Exact.{P, taylor, fact}
 use Rattle.wide.specs.declared.Wide.{Wide}
 use Rattle.wide.specs.Value.{valueOf}
 use Rattle.wide.proofs.Laws.{low-is}
-use Rattle.kernels.specs.Core.{entry, index, gap}
-use Rattle.kernels.proofs.table.Every.{every, at}
-use Rattle.kernels.proofs.table.Entries.{powers, entry-at, entry-zero}
+use Rattle.table.specs.Entry.{entry}
+use Rattle.kernels.specs.Core.{index, gap}
+use Rattle.table.proofs.Every.{every, at}
+use Rattle.table.proofs.Entries.{powers, entry-at, entry-zero}
 use Rattle.kernels.proofs.index.First.{Found, index-found}
 
 -- ---- an entry and its partner

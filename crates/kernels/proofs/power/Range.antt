@@ -8,10 +8,11 @@ use lib.Dec.{T, ltb, ltb→lt}
 use lib.Pow.{pow-pos}
 use lib.Ieee.{Format, binary32, binary64}
 use Rattle.exact.specs.Exact.{N, P, taylor, fact}
-use Rattle.kernels.specs.Core.{entry, ups, high, horner, mantissa}
+use Rattle.table.specs.Entry.{entry}
+use Rattle.kernels.specs.Core.{ups, high, horner, mantissa}
 use Rattle.kernels.specs.PowerSteps.{Significand}
-use Rattle.kernels.proofs.table.Every.{every, at}
-use Rattle.kernels.proofs.table.Entries.{powers, entry-at, entry-ge}
+use Rattle.table.proofs.Every.{every, at}
+use Rattle.table.proofs.Entries.{powers, entry-at, entry-ge}
 
 -- ---- it grows
 div-up : (d : ℕ) {a b : ℕ} → 0 < d → a ≤ b → a / d ≤ b / d

@@ -7,7 +7,8 @@ use lib.Dec.{lit<, lit≤}
 use lib.Ieee.{Format, binary32, binary64}
 use Rattle.exact.specs.Exact.{N}
 use Rattle.exact.proofs.Below.{less}
-use Rattle.kernels.specs.Core.{entry, gap, below, index}
+use Rattle.table.specs.Entry.{entry}
+use Rattle.kernels.specs.Core.{gap, below, index}
 use Rattle.promises.proofs.logarithm.Sum.{PP, FF, Sn, Sd}
 use Rattle.promises.proofs.logarithm.Horner.{lg, below-is, cut}
 use Rattle.promises.proofs.logarithm.Argument.{Place, core-up, core-down}

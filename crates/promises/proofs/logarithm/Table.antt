@@ -11,7 +11,8 @@ use Rattle.exact.specs.Exact.{N, P, taylor, fact}
 use Rattle.exact.proofs.Poly.{h}
 use Rattle.exact.proofs.Fix.{both, both-left, both-right}
 use Rattle.exact.proofs.Terms.{pcoef, f23}
-use Rattle.kernels.specs.Core.{entry, firstFrom, index}
+use Rattle.table.specs.Entry.{entry}
+use Rattle.kernels.specs.Core.{firstFrom, index}
 use Rattle.promises.proofs.logarithm.Sum.{PP, FF}
 
 -- ---- claims l ≤ h, all computed at once

@@ -15,7 +15,8 @@ use Rattle.exact.proofs.Terms.{pcoef, f23}
 use Rattle.exact.proofs.Taylor.{P-num, P-den}
 use Rattle.exact.proofs.Sums.{sum-le, prod-le}
 use Rattle.exact.proofs.Near.{h-grows, P-one}
-use Rattle.kernels.specs.Core.{entry, ups, horner, mantissa}
+use Rattle.table.specs.Entry.{entry}
+use Rattle.kernels.specs.Core.{ups, horner, mantissa}
 use Rattle.promises.proofs.power.Polynomial.{tail, frac, Q, den, den-pos, poly-le, le-poly, frac-small}
 
 -- what the missing terms, the cuts of the chain and two more cuts can take from M

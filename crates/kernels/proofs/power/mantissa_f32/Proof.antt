@@ -3,7 +3,7 @@ use mathlib.Core.Path.{sym, subst}
 use Prim.Native.Nat.{ℕ, _^_, _<_}
 use native.Mathlib.Nat.{le-of-lt}
 use lib.Ieee.{binary32}
-use Rattle.kernels.proofs.table.Entries.{entry-lt}
+use Rattle.table.proofs.Entries.{entry-lt}
 use Rattle.kernels.proofs.power.Range.{significant, mantissa-f32}
 use borrow.Author.Needs.{needs}
 use Rattle.kernels.proofs.power.mantissa_f32.Statement.{statement}

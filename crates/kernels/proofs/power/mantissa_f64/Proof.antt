@@ -5,7 +5,7 @@ use native.Mathlib.Nat.{le-of-lt}
 use native.Mathlib.Omega.{arith}
 use lib.Dec.{lit<}
 use lib.Ieee.{binary64}
-use Rattle.kernels.proofs.table.Entries.{entry-lt}
+use Rattle.table.proofs.Entries.{entry-lt}
 use Rattle.kernels.proofs.power.Range.{significant, mantissa-f64}
 use borrow.Author.Needs.{needs}
 use Rattle.kernels.proofs.power.mantissa_f64.Statement.{statement}

@@ -9,8 +9,8 @@ use lib.Dec.{T, leb, ltb, leb→le, ltb→lt, lit≤}
 use lib.Ieee.Fits.{and-l, and-r}
 use lib.ListN.{getD}
 use Rattle.exact.specs.Exact.{P, taylor, fact}
-use Rattle.kernels.specs.Core.{entry}
-use Rattle.kernels.proofs.table.Every.{every, at}
+use Rattle.table.specs.Entry.{entry}
+use Rattle.table.proofs.Every.{every, at}
 
 -- entry i, entry (i + 1), .. n of them
 abbrev pub entries : (i n : ℕ) → List ℕ

@@ -33,3 +33,16 @@ from f (x ∷ xs) i t (suc k) h =
 
 pub at : (f : ℕ → ℕ → Bool) (xs : List ℕ) → T (every f 0 xs) → (k : ℕ) → k < length xs → T (f k (getD xs k 0))
 at f xs t k h = subst (λ (m : ℕ). T (f m (getD xs k 0))) (zero-add k) (from f xs 0 t k h)
+
+-- the same of the numbers i, i + 1, .. n of them
+abbrev pub all : (ℕ → Bool) → (i n : ℕ) → Bool
+all f i zero = true
+all f i (suc n) = both (f i) (all f (suc i) n)
+
+all-from : (f : ℕ → Bool) (n i : ℕ) → T (all f i n) → (k : ℕ) → k < n → T (f (i + k))
+all-from f zero i t k h = absurd (not-suc-le-zero h)
+all-from f (suc n) i t zero h = subst (λ (m : ℕ). T (f m)) (sym (add-zero i)) (both-left (f i) (all f (suc i) n) t)
+all-from f (suc n) i t (suc k) h = subst (λ (m : ℕ). T (f m)) (suc-add i k ∙ sym (add-suc i k)) (all-from f n (suc i) (both-right (f i) (all f (suc i) n) t) k (le-of-suc-le-suc h))
+
+pub all-at : (f : ℕ → Bool) (n : ℕ) → T (all f 0 n) → (k : ℕ) → k < n → T (f k)
+all-at f n t k h = subst (λ (m : ℕ). T (f m)) (zero-add k) (all-from f n 0 t k h)

@@ -1,0 +1,4 @@
+-- Laws of the table, for the proofs of the kernels.
+pub mod Every
+pub mod Entries
+mod Arms
