@@ -2,21 +2,16 @@
 use mathlib.Core.Path.{_≡_}
 use Prim.Native.Nat.{ℕ, _+_, _*_, _^_, _≤_, _<_}
 use lib.Ieee.{Float, nan, inf, fin, Format, size, minus}
-use mathlib.Core.Bool.{false, cond}
-use lib.Dec.{ltb}
+use mathlib.Core.Bool.{false}
 use Rattle.table.specs.Entry.{entry}
 use Rattle.kernels.specs.Core.{firstFrom, index, gap, below, Fixed, logAt, moved, logarithm}
 use Rattle.kernels.specs.declared.logarithm.Log.{Log}
 
--- the first entry for the interval of m: none below it reaches m, and one of the next two does
+-- the first entry for the interval of m: none below it reaches m, and it or the next one does
 pub record Start (m r : ℕ) : Type 0 where
   pub most : r ≤ 256
   pub passed : (j : ℕ) → j < r → entry j < m
-  pub reached : m ≤ entry (r + 2)
-
--- one entry on, where the entry i is below m
-abbrev pub up : (i m : ℕ) → ℕ
-up i m = cond (ltb (entry i) m) (i + 1) i
+  pub reached : m ≤ entry (r + 1)
 
 -- the logarithm of d * 2 ^ p smallest doubles, 2 ^ -1074
 unfoldable pub logUnits : Format → (d p : ℕ) → Fixed

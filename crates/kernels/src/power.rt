@@ -1,7 +1,7 @@
 // The power of e for a fixed-point number, rounded once: the number is divided by ln 2 / 256, the table has the power of
 // the fraction, and a short series that of the rest.
 ghost use mathlib.Core.Path.{_≡_};
-ghost use mathlib.Core.Bool.{false};
+ghost use mathlib.Core.Bool.{false, true};
 ghost use Prim.Native.Nat.{_+_, _*_, _/_, _^_, _≤_, _<_};
 ghost use lib.IntN.{subℕ};
 ghost use lib.Ieee.{binary32, binary64, round};
@@ -23,20 +23,11 @@ pub struct Reduced {
     pub rest: u64,
 }
 
-// 2048 ln 2 plus or minus the number, so that nothing below is negative. A negative number is rounded down with it.
-fn biased(negative: bool, high: u64, low: u64) -> Words
+// 2048 ln 2 plus the number, so that nothing below is negative.
+fn above(high: u64, low: u64) -> Words
     requires { ⌜ (high < 2 ^ 50) × (low < 2 ^ 32) ⌝ }
-    ensures { λ r. ⌜ Holds 52 (Core.biased negative (high * 2 ^ 32 + low)) r ⌝ }
+    ensures { λ r. ⌜ Holds 52 (Core.biased false (high * 2 ^ 32 + low)) r ⌝ }
 {
-    if negative {
-        let l = 0x1_cd58_0000 - low;
-        let h = 0x5_8b90_bfbe_8e7a - high;
-        let top = h + l / 0x1_0000_0000;
-        return Words {
-            high: top,
-            low: l % 0x1_0000_0000,
-        };
-    }
     let l = 0xcd58_0000 + low;
     let h = 0x5_8b90_bfbe_8e7b + high;
     let top = h + l / 0x1_0000_0000;
@@ -44,6 +35,30 @@ fn biased(negative: bool, high: u64, low: u64) -> Words
         high: top,
         low: l % 0x1_0000_0000,
     }
+}
+
+// The same less the number, which is rounded down with it.
+fn under(high: u64, low: u64) -> Words
+    requires { ⌜ (high < 2 ^ 50) × (low < 2 ^ 32) ⌝ }
+    ensures { λ r. ⌜ Holds 52 (Core.biased true (high * 2 ^ 32 + low)) r ⌝ }
+{
+    let l = 0x1_cd58_0000 - low;
+    let h = 0x5_8b90_bfbe_8e7a - high;
+    let top = h + l / 0x1_0000_0000;
+    Words {
+        high: top,
+        low: l % 0x1_0000_0000,
+    }
+}
+
+// Both are made and one is chosen: a sign is seldom foreseen, and a wrong guess costs more than the sum.
+fn biased(negative: bool, high: u64, low: u64) -> Words
+    requires { ⌜ (high < 2 ^ 50) × (low < 2 ^ 32) ⌝ }
+    ensures { λ r. ⌜ Holds 52 (Core.biased negative (high * 2 ^ 32 + low)) r ⌝ }
+{
+    let a = above(high, low);
+    let b = under(high, low);
+    if negative { b } else { a }
 }
 
 // Division by N: by one more than its upper half, which is at most one too few.

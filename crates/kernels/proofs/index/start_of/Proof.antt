@@ -1,4 +1,4 @@
--- `kernels::index::start_of` meets its contract: the cubic, tested at each of its 256 arguments. Assumes nothing.
+-- `kernels::index::start_of` meets its contract: the cubic, tested at each of its 512 arguments. Assumes nothing.
 use native.Mathlib.Nat.{le-trans}
 use Prim.Native.Nat.{ℕ, _+_, _*_, _≤_}
 use native.Mathlib.Omega.{arith}
@@ -28,7 +28,7 @@ mul-result : tie.Need-mul-result
 mul-result c = fits-below tt (outer (place (c .args .m)) (place-lt (c .args .m) (c .pre .0) (c .pre .1)))
 
 add-result : tie.Need-add-result
-add-result c = fits-below tt (more 13231740 (outer (place (c .args .m)) (place-lt (c .args .m) (c .pre .0) (c .pre .1))))
+add-result c = fits-below tt (more 124802494 (outer (place (c .args .m)) (place-lt (c .args .m) (c .pre .0) (c .pre .1))))
   where
     more : {x b : ℕ} (a : ℕ) → x ≤ b → a + x ≤ a + b
     more a h = omega arith

@@ -1,36 +1,28 @@
--- `kernels::power::biased` meets its contract: the two halves, with the borrow or the carry between them. Assumes nothing.
-use mathlib.Core.Path.{sym, ap, _∙_}
+-- `kernels::power::biased` meets its contract: the sign chooses. Assumes nothing.
+use mathlib.Core.Path.{sym, subst}
 use mathlib.Core.Bool.{Bool}
 use Prim.Native.Nat.{_+_, _*_, _^_}
-use native.Mathlib.Omega.{arith}
-use Rattle.kernels.specs.Core.{biased}
 use borrow.Author.Needs.{needs}
+use Rattle.kernels.specs.Core.{biased}
+use Rattle.kernels.specs.PowerSteps.{Holds}
 use Rattle.kernels.proofs.power.biased.Statement.{statement}
 use Rattle.kernels.proofs.power.biased.Tie as tie
 
-sub-l : tie.Need-sub-l
-sub-l c = search needs
+above-requires : tie.Need-above-requires
+above-requires c κs = search needs
 
-sub-h : tie.Need-sub-h
-sub-h c = search needs
-
-add-top : tie.Need-add-top
-add-top c = search needs
+under-requires : tie.Need-under-requires
+under-requires c κs = search needs
 
 returns : tie.Need-returns
-returns c = record { upper = omega arith; lower = omega arith; is = omega arith ∙ ap (λ (b : Bool). biased b (c .before .args .high * 2 ^ 32 + c .before .args .low)) (sym (c .if1 .taken)) }
-
-add-l : tie.Need-add-l
-add-l c = search needs
-
-add-h : tie.Need-add-h
-add-h c = search needs
-
-add-top-2 : tie.Need-add-top-2
-add-top-2 c = search needs
+returns c =
+    let s = c .before .before .before in
+    subst (λ (b : Bool). Holds 52 (biased b (s .args .high * 2 ^ 32 + s .args .low)) (c .before .under .result)) (sym (c .if1 .taken)) (c .before .under .ensures)
 
 returns-2 : tie.Need-returns-2
-returns-2 c = record { upper = omega arith; lower = omega arith; is = omega arith ∙ ap (λ (b : Bool). biased b (c .before .args .high * 2 ^ 32 + c .before .args .low)) (sym (c .if1 .left)) }
+returns-2 c =
+    let s = c .before .before .before in
+    subst (λ (b : Bool). Holds 52 (biased b (s .args .high * 2 ^ 32 + s .args .low)) (c .before .before .above .result)) (sym (c .if1 .left)) (c .before .before .above .ensures)
 
 pub biased-spec : {M : Type 1} → statement M
-biased-spec = tie.close (tie.spec sub-l sub-h add-top returns add-l add-h add-top-2 returns-2)
+biased-spec = tie.close (tie.spec above-requires under-requires returns returns-2)
