@@ -91,8 +91,8 @@ def entry(i):
 
 
 TABLE = [entry(i) for i in range(256)] + [2**63]
-UPS = {f: [2 ** (71 - 8 * j) // factorial(j) for j in range(1, n + 1)] for f, n in ((SINGLE, 3), (DOUBLE, 6))}
-DOWNS = {f: [2**63 // j for j in range(1, n + 1)] for f, n in ((SINGLE, 5), (DOUBLE, 8))}
+UPS = {f: [2 ** (71 - 8 * j) // factorial(j) for j in range(1, n + 1)] for f, n in ((SINGLE, 3), (DOUBLE, 5))}
+DOWNS = {f: [2**63 // j for j in range(1, n + 1)] for f, n in ((SINGLE, 5), (DOUBLE, 7))}
 BIAS = 2**19 * N
 
 

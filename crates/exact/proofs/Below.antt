@@ -1,4 +1,4 @@
--- P(l(g)) against 1 / (1 - g), for l(g) = g + g^2/2 + .. + g^n/n and 0 ≤ g ≤ 7/2560. Single results take five terms, double ones eight. Assumes nothing.
+-- P(l(g)) against 1 / (1 - g), for l(g) = g + g^2/2 + .. + g^n/n and 0 ≤ g ≤ 7/2560. Single results take five terms, double ones seven. Assumes nothing.
 use mathlib.Core.Path.{_≡_}
 use mathlib.Core.List.{List, [], _∷_}
 use Prim.Native.Nat.{ℕ, suc, _+_, _*_, _^_, _≤_}
@@ -12,16 +12,16 @@ use Rattle.exact.proofs.Terms.{pcoef, f23}
 -- n - 1, the degree of l(g) / g
 abbrev pub deg : Format → ℕ
 deg binary32 = 4
-deg binary64 = 7
+deg binary64 = 6
 
 -- a common multiple of 1..n, and the coefficients of l(g) / g over it
 abbrev pub dL : Format → ℕ
 dL binary32 = 60
-dL binary64 = 840
+dL binary64 = 420
 
 unfoldable pub tcoef : Format → List ℕ
 tcoef binary32 = 60 ∷ 30 ∷ 20 ∷ 15 ∷ 12 ∷ []
-tcoef binary64 = 840 ∷ 420 ∷ 280 ∷ 210 ∷ 168 ∷ 140 ∷ 120 ∷ 105 ∷ []
+tcoef binary64 = 420 ∷ 210 ∷ 140 ∷ 105 ∷ 84 ∷ 70 ∷ 60 ∷ []
 
 abbrev pub lcoef : Format → List ℕ
 lcoef f = 0 ∷ tcoef f
@@ -29,7 +29,7 @@ lcoef f = 0 ∷ tcoef f
 -- P(l(g)) (1 - g) is at most 1 / less f below 1
 abbrev pub less : Format → ℕ
 less binary32 = 25 * 2 ^ 49
-less binary64 = 2 ^ 79
+less binary64 = 2 ^ 71
 
 unfoldable pub uL : Format → ℕ
 unfolding f23

@@ -3,7 +3,7 @@
 use Prim.Native.Nat.{ℕ, zero, suc, _+_, _-_, _*_, _/_, _^_}
 use mathlib.Core.Bool.{Bool, true, false, cond}
 use mathlib.Core.List.{List, [], _∷_}
-use lib.Dec.{leb, eqb}
+use lib.Dec.{leb}
 use lib.IntN.{ℤ, pos, negsuc, _+ℤ_}
 use lib.Ieee.{Format, binary32, binary64, size}
 use Rattle.exact.specs.Exact.{N, fact}
@@ -17,7 +17,7 @@ run c j (suc n) = c j ∷ run c (suc j) n
 -- e ^ s - 1 in units of 2 ^ -71, for s in units of 2 ^ -72: the term s ^ j / j! wants the whole part of 2 ^ (71 - 8 j) / j!
 abbrev pub upTerms : Format → ℕ
 upTerms binary32 = 3
-upTerms binary64 = 6
+upTerms binary64 = 5
 
 unfoldable pub ups : Format → List ℕ
 unfolding fact
@@ -26,7 +26,7 @@ ups f = run (λ (j : ℕ). 2 ^ (71 - 8 * j) / fact j) 1 (upTerms f)
 -- -ln(1 - g) / g in units of 2 ^ -63: the term g ^ (j - 1) / j wants the whole part of 2 ^ 63 / j
 abbrev pub downTerms : Format → ℕ
 downTerms binary32 = 5
-downTerms binary64 = 8
+downTerms binary64 = 7
 
 unfoldable pub downs : Format → List ℕ
 downs f = run (λ (j : ℕ). 2 ^ 63 / j) 1 (downTerms f)

@@ -51,18 +51,17 @@ fn scaled(g: u64, p: u64) -> u64
     w.low
 }
 
-// -ln(1 - g), by 8 terms.
+// -ln(1 - g), by 7 terms.
 fn below_f64(g: u64) -> u64
     requires { ⌜ g ≤ 2 ^ 63 ⌝ }
     ensures { λ r. ⌜ r ≡ below binary64 g ⌝ }
 {
-    let a = term(0x1249_2492_4924_9249, g, 0x1000_0000_0000_0000);
-    let b = term(0x1555_5555_5555_5555, g, a);
-    let c = term(0x1999_9999_9999_9999, g, b);
-    let d = term(0x2000_0000_0000_0000, g, c);
-    let e = term(0x2aaa_aaaa_aaaa_aaaa, g, d);
-    let f = term(0x4000_0000_0000_0000, g, e);
-    scaled(g, term(0x8000_0000_0000_0000, g, f))
+    let a = term(0x1555_5555_5555_5555, g, 0x1249_2492_4924_9249);
+    let b = term(0x1999_9999_9999_9999, g, a);
+    let c = term(0x2000_0000_0000_0000, g, b);
+    let d = term(0x2aaa_aaaa_aaaa_aaaa, g, c);
+    let e = term(0x4000_0000_0000_0000, g, d);
+    scaled(g, term(0x8000_0000_0000_0000, g, e))
 }
 
 // The same, by 5 terms: a single has no use for more.

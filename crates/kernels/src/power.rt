@@ -104,12 +104,11 @@ fn mantissa_f64(i: u64, s: u64) -> u64
     requires { ⌜ (i < 256) × (s < N) ⌝ }
     ensures { λ r. ⌜ Significand binary64 i s r ⌝ }
 {
-    let a = step(0x111_1111, s, 0x2d82);
-    let b = step(0x5_5555_5555, s, a);
-    let c = step(0x1555_5555_5555, s, b);
-    let d = step(0x40_0000_0000_0000, s, c);
-    let e = step(0x8000_0000_0000_0000, s, d);
-    scaled(entry_at(i), s, e)
+    let a = step(0x5_5555_5555, s, 0x111_1111);
+    let b = step(0x1555_5555_5555, s, a);
+    let c = step(0x40_0000_0000_0000, s, b);
+    let d = step(0x8000_0000_0000_0000, s, c);
+    scaled(entry_at(i), s, d)
 }
 
 fn mantissa_f32(i: u64, s: u64) -> u64

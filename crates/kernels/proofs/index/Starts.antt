@@ -1,19 +1,14 @@
 -- The cubic's start for a number's leading digits: one computed test; and the step from it. Assumes nothing.
-use mathlib.Core.Path.{_≡_, refl, sym, ap, _∙_, subst}
-use mathlib.Core.Bool.{Bool, true, false, not, cond, _&&_}
-use mathlib.Core.List.{List, [], _∷_}
+use mathlib.Core.Path.{_≡_, sym, ap, _∙_, subst}
+use mathlib.Core.Bool.{Bool, true, _&&_}
 use Prim.Native.Nat.{ℕ, zero, suc, _+_, _-_, _*_, _/_, _^_, _≤_, _<_}
-use native.Mathlib.Nat.{le-trans, le-of-lt, lt-of-lt-of-le, lt-of-le-of-lt, lt-irrefl, le-of-eq, add-assoc, not-suc-le-zero, mul-le-mul}
+use native.Mathlib.Nat.{le-trans, le-of-lt, lt-of-lt-of-le, lt-of-le-of-lt, lt-irrefl, le-of-eq, not-suc-le-zero, mul-le-mul}
 use native.Mathlib.Numerals.{add-one}
 use native.Mathlib.Omega.{arith}
 use borrow.Author.Count.{below-more}
 use lib.Arith.{lt-of-le-ne}
-use lib.Dec.{T, leb, ltb, leb→le, ltb→lt, nltb→le, lit≤}
+use lib.Dec.{T, leb, ltb, leb→le, ltb→lt, lit≤}
 use lib.Ieee.Fits.{and-l, and-r}
-use lib.ListN.{length, getD}
-use mir.Syntax.{w64}
-use mir.Val.{Fits}
-use mir.Facts.{fits-below}
 use Rattle.exact.specs.Exact.{P, taylor, fact}
 use Rattle.table.specs.Entry.{entry}
 use Rattle.kernels.specs.Core.{index}

@@ -60,9 +60,9 @@ significant f i s m h l e =
 none-above : (x : ℕ) → high x 0 ≡ 0
 none-above x = ap (λ (y : ℕ). y / 2 ^ 64) (mul-zero x)
 
-pub mantissa-f64 : (i s : ℕ) → mantissa binary64 i s ≡ entry i + entry i * high s (0x8000_0000_0000_0000 + high s (0x40_0000_0000_0000 + high s (0x1555_5555_5555 + high s (0x5_5555_5555 + high s (0x111_1111 + high s 0x2d82))))) / 2 ^ 71
+pub mantissa-f64 : (i s : ℕ) → mantissa binary64 i s ≡ entry i + entry i * high s (0x8000_0000_0000_0000 + high s (0x40_0000_0000_0000 + high s (0x1555_5555_5555 + high s (0x5_5555_5555 + high s 0x111_1111)))) / 2 ^ 71
 unfolding mantissa horner ups fact
-mantissa-f64 i s = ap (λ (y : ℕ). entry i + entry i * high s (0x8000_0000_0000_0000 + high s (0x40_0000_0000_0000 + high s (0x1555_5555_5555 + high s (0x5_5555_5555 + high s (0x111_1111 + high s (0x2d82 + y)))))) / 2 ^ 71) (none-above s)
+mantissa-f64 i s = ap (λ (y : ℕ). entry i + entry i * high s (0x8000_0000_0000_0000 + high s (0x40_0000_0000_0000 + high s (0x1555_5555_5555 + high s (0x5_5555_5555 + high s (0x111_1111 + y))))) / 2 ^ 71) (none-above s)
 
 pub mantissa-f32 : (i s : ℕ) → mantissa binary32 i s ≡ entry i + entry i * high s (0x8000_0000_0000_0000 + high s (0x40_0000_0000_0000 + high s 0x1555_5555_5555)) / 2 ^ 71
 unfolding mantissa horner ups fact

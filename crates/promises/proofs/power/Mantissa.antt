@@ -22,7 +22,7 @@ use Rattle.promises.proofs.power.Polynomial.{tail, frac, Q, den, den-po
 -- what the missing terms, the cuts of the chain and two more cuts can take from M
 abbrev pub loss : Format → ℕ
 loss binary32 = 2 ^ 25
-loss binary64 = 3
+loss binary64 = 8
 
 -- ---- arithmetic alone: D the common denominator, A = 2 ^ 62, E = 2 ^ 71, e units lost in the chain, t = 2 ^ 93
 glue-up : (D Qi Qs Qr x d M A E t : ℕ) → zero < D → zero < E → x * D ≤ A * Qi → (E + d) * D ≤ E * Qs → Qi * Qs * t ≤ Qr * D * t + D * D

@@ -15,10 +15,10 @@ use Rattle.exact.proofs.Near.{P-den-pos}
 use Rattle.exact.proofs.Terms.{pcoef, f23}
 use Rattle.kernels.specs.Core.{ups}
 
--- what the missing terms weigh, in units of 2 ^ -71: s ^ 4 / 24 + .. where the chain has three terms, and s ^ 7 / 5040 + .. where it has six
+-- what the missing terms weigh, in units of 2 ^ -71: s ^ 4 / 24 + .. where the chain has three terms, and s ^ 6 / 720 + .. where it has five
 abbrev pub tail : Format → ℕ
 tail binary32 = 6000000000
-tail binary64 = 3
+tail binary64 = 1372
 
 -- the chain with its constant term
 whole : Format → List ℕ

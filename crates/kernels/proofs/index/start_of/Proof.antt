@@ -1,9 +1,7 @@
 -- `kernels::index::start_of` meets its contract: the cubic, tested at each of its 512 arguments. Assumes nothing.
-use native.Mathlib.Nat.{le-trans}
-use Prim.Native.Nat.{ℕ, _+_, _*_, _≤_}
+use Prim.Native.Nat.{ℕ, _+_, _≤_}
 use native.Mathlib.Omega.{arith}
 use borrow.Author.Needs.{needs}
-use lib.Dec.{lit≤}
 use mir.Facts.{fits-below}
 use Rattle.kernels.proofs.index.Starts.{place, place-lt, inner, outer, start-is}
 use Rattle.kernels.proofs.index.start_of.Statement.{statement}

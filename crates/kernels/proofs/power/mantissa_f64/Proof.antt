@@ -24,22 +24,23 @@ step-requires-2 : tie.Need-step-requires-2
 step-requires-2 c κs = search needs
 
 step-requires-3 : tie.Need-step-requires-3
-step-requires-3 c κs = fits 0x1555_5555_5555 (grown 0x5_5555_5555 (c .before .step .ensures .1) (c .step2 .ensures .1)) (lit< tt)
+step-requires-3 c κs = fits 0x40_0000_0000_0000 (grown 0x1555_5555_5555 (c .before .step .ensures .1) (c .step2 .ensures .1)) (lit< tt)
 
 step-requires-4 : tie.Need-step-requires-4
-step-requires-4 c κs = fits 0x40_0000_0000_0000 (grown 0x1555_5555_5555 (grown 0x5_5555_5555 (c .before .before .step .ensures .1) (c .before .step2 .ensures .1)) (c .step3 .ensures .1)) (lit< tt)
-
-step-requires-5 : tie.Need-step-requires-5
-step-requires-5 c κs = fits 0x8000_0000_0000_0000 (grown 0x40_0000_0000_0000 (grown 0x1555_5555_5555 (grown 0x5_5555_5555 (c .before .before .before .step .ensures .1) (c .before .before .step2 .ensures .1)) (c .before .step3 .ensures .1)) (c .step4 .ensures .1)) (lit< tt)
+step-requires-4 c κs = fits 0x8000_0000_0000_0000 (grown 0x40_0000_0000_0000 (grown 0x1555_5555_5555 (c .before .before .step .ensures .1) (c .before .step2 .ensures .1)) (c .step3 .ensures .1)) (lit< tt)
 
 entry-at-requires : tie.Need-entry-at-requires
 entry-at-requires c κs = search needs
 
 scaled-requires : tie.Need-scaled-requires
-scaled-requires c κs = subst (λ (t : ℕ). t < 2 ^ 63) (sym (c .entry-at .ensures)) (entry-lt (c .before .before .before .before .before .before .args .i) (c .before .before .before .before .before .before .pre .0))
+scaled-requires c κs =
+    let t = c .before .before .before .before .before in
+    subst (λ (x : ℕ). x < 2 ^ 63) (sym (c .entry-at .ensures)) (entry-lt (t .args .i) (t .pre .0))
 
 returns : tie.Need-returns
-returns c = significant binary64 (c .before .before .before .before .before .before .before .args .i) (c .before .before .before .before .before .before .before .args .s) (c .scaled .result) (c .before .before .before .before .before .before .before .pre .0) (le-of-lt (c .before .before .before .before .before .before .before .pre .1)) (cc (mantissa-f64 (c .before .before .before .before .before .before .before .args .i) (c .before .before .before .before .before .before .before .args .s)))
+returns c =
+    let t = c .before .before .before .before .before .before in
+    significant binary64 (t .args .i) (t .args .s) (c .scaled .result) (t .pre .0) (le-of-lt (t .pre .1)) (cc (mantissa-f64 (t .args .i) (t .args .s)))
 
 pub mantissa-f64-spec : {M : Type 1} → statement M
 mantissa-f64-spec =
@@ -49,7 +50,6 @@ mantissa-f64-spec =
     step-requires-2
     step-requires-3
     step-requires-4
-    step-requires-5
     entry-at-requires
     scaled-requires
     returns)
