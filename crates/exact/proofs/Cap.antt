@@ -64,7 +64,7 @@ h-up zero (c ∷ d ∷ p) a b l t = absurd t
 h-up (suc M) [] a b l t = omega arith
 h-up (suc M) (c ∷ p) a b l t =
     rw (pow-succ' b (suc M))
-      (omega (arith, mul-le-mul-left a (h-up M p a b l t), mul-le-mul-right (b ^ suc M) (third a b (c + up p) l)))
+    (omega (arith, mul-le-mul-left a (h-up M p a b l t), mul-le-mul-right (b ^ suc M) (third a b (c + up p) l)))
 
 pub h-cap : (M K : ℕ) (p : List ℕ) (a b : ℕ) → a * 3 ≤ b → T (fits (M + K) p) → h (M + K) p a b ≤ h K (cap K p) a b * b ^ M
 unfolding h cap
@@ -120,10 +120,10 @@ lo-le K zero m (c ∷ p) U s a b t = rw (zero-mul m, pow-zero b, h-const K c a b
 lo-le K (suc n) m [] U s a b t = rw (h-nil K a b) (omega arith)
 lo-le K (suc n) m (c ∷ p) U s a b t =
     rw (pow-mul U (b ^ m) (suc n), pow-pow b m (suc n), suc-mul n m, pow-add b (n * m) m)
-      (low (h K (cut K (add (c * U ^ suc n ∷ []) (mul s (comp-lo K n p U s)))) a b) (h m s a b) (b ^ m) (b ^ K) (b ^ (n * m)) 0 (h K (comp-lo K n p U s) a b)
-        (h n p (h m s a b) (U * b ^ m)) c (U ^ suc n)
-        (rw (h-step m K (c * U ^ suc n) s (comp-lo K n p U s) a b t (fits-lo K n p U s)) at (h-cut m K (add (c * U ^ suc n ∷ []) (mul s (comp-lo K n p U s))) a b))
-        (lo-le K n m p U s a b t))
+    (low (h K (cut K (add (c * U ^ suc n ∷ []) (mul s (comp-lo K n p U s)))) a b) (h m s a b) (b ^ m) (b ^ K) (b ^ (n * m)) 0 (h K (comp-lo K n p U s) a b)
+    (h n p (h m s a b) (U * b ^ m)) c (U ^ suc n)
+    (rw (h-step m K (c * U ^ suc n) s (comp-lo K n p U s) a b t (fits-lo K n p U s)) at (h-cut m K (add (c * U ^ suc n ∷ []) (mul s (comp-lo K n p U s))) a b))
+    (lo-le K n m p U s a b t))
 
 pub le-up : (K n m : ℕ) (p : List ℕ) (U : ℕ) (s : List ℕ) (a b : ℕ) → a * 3 ≤ b → T (fits m s)
     → h n p (h m s a b) (U * b ^ m) * b ^ K ≤ h K (comp-up K n p U s) a b * b ^ (n * m)
@@ -133,9 +133,9 @@ le-up K zero m (c ∷ p) U s a b l t = rw (zero-mul m, pow-zero b, h-const K c a
 le-up K (suc n) m [] U s a b l t = rw (h-nil K a b) (omega arith)
 le-up K (suc n) m (c ∷ p) U s a b l t =
     rw (pow-mul U (b ^ m) (suc n), pow-pow b m (suc n), suc-mul n m, pow-add b (n * m) m)
-      (high (h K (cap K (add (c * U ^ suc n ∷ []) (mul s (comp-up K n p U s)))) a b) (h m s a b) (b ^ m) (b ^ K) (b ^ (n * m)) 0 (h K (comp-up K n p U s) a b)
-        (h n p (h m s a b) (U * b ^ m)) c (U ^ suc n)
-        (rw (h-step m K (c * U ^ suc n) s (comp-up K n p U s) a b t (fits-up' K n p U s)) at
-          (h-cap m K (add (c * U ^ suc n ∷ []) (mul s (comp-up K n p U s))) a b l
-            (fits-add (m + K) (c * U ^ suc n ∷ []) (mul s (comp-up K n p U s)) (fits-one (m + K) (c * U ^ suc n)) (fits-mul m K s (comp-up K n p U s) t (fits-up' K n p U s)))))
-        (le-up K n m p U s a b l t))
+    (high (h K (cap K (add (c * U ^ suc n ∷ []) (mul s (comp-up K n p U s)))) a b) (h m s a b) (b ^ m) (b ^ K) (b ^ (n * m)) 0 (h K (comp-up K n p U s) a b)
+    (h n p (h m s a b) (U * b ^ m)) c (U ^ suc n)
+    (rw (h-step m K (c * U ^ suc n) s (comp-up K n p U s) a b t (fits-up' K n p U s)) at
+    (h-cap m K (add (c * U ^ suc n ∷ []) (mul s (comp-up K n p U s))) a b l
+    (fits-add (m + K) (c * U ^ suc n ∷ []) (mul s (comp-up K n p U s)) (fits-one (m + K) (c * U ^ suc n)) (fits-mul m K s (comp-up K n p U s) t (fits-up' K n p U s)))))
+    (le-up K n m p U s a b l t))

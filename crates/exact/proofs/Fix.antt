@@ -32,14 +32,14 @@ module _ (K : ℕ) (r : List ℕ) (c d t u W : ℕ) (z : zero < d) where
   test-up [] s = absurd s
   test-up (x ∷ p) s =
       leb→le (h (suc K) (sub (x ∷ p) (add r (0 ∷ x ∷ p))) c d * t) (W * d ^ suc K)
-        (both-left (leb (h (suc K) (sub (x ∷ p) (add r (0 ∷ x ∷ p))) c d * t) (W * d ^ suc K)) (leb (h (suc K) (sub (add r (0 ∷ x ∷ p)) (x ∷ p)) c d * u) (W * d ^ suc K)) s)
+      (both-left (leb (h (suc K) (sub (x ∷ p) (add r (0 ∷ x ∷ p))) c d * t) (W * d ^ suc K)) (leb (h (suc K) (sub (add r (0 ∷ x ∷ p)) (x ∷ p)) c d * u) (W * d ^ suc K)) s)
 
   test-down : (p : List ℕ) → T (fix-test K r c d t u W p) → h (suc K) (sub (add r (0 ∷ p)) p) c d * u ≤ W * d ^ suc K
   unfolding fix-test
   test-down [] s = absurd s
   test-down (x ∷ p) s =
       leb→le (h (suc K) (sub (add r (0 ∷ x ∷ p)) (x ∷ p)) c d * u) (W * d ^ suc K)
-        (both-right (leb (h (suc K) (sub (x ∷ p) (add r (0 ∷ x ∷ p))) c d * t) (W * d ^ suc K)) (leb (h (suc K) (sub (add r (0 ∷ x ∷ p)) (x ∷ p)) c d * u) (W * d ^ suc K)) s)
+      (both-right (leb (h (suc K) (sub (x ∷ p) (add r (0 ∷ x ∷ p))) c d * t) (W * d ^ suc K)) (leb (h (suc K) (sub (add r (0 ∷ x ∷ p)) (x ∷ p)) c d * u) (W * d ^ suc K)) s)
 
   lift : (p : List ℕ) (a b : ℕ) → T (fits K p) → h (suc K) p a b ≡ b * h K p a b
   lift p a b f = rw (← one-add K, h-lift 1 K p a b f, pow-one b)

@@ -30,7 +30,7 @@ le-fx zero (c ∷ p) s w e z l = rw (pow-zero w) (omega arith)
 le-fx (suc K) [] s w e z l = omega arith
 le-fx (suc K) (c ∷ p) s w e z l =
     rw (pow-succ' w K)
-      (omega (arith, mul-le-mul-left s (le-fx K p s w e z l), mul-le-mul-right (w ^ K) (lt-div-mul-add {a = s * fx p s w} z), mul-le-mul-right (w ^ K) l))
+    (omega (arith, mul-le-mul-left s (le-fx K p s w e z l), mul-le-mul-right (w ^ K) (lt-div-mul-add {a = s * fx p s w} z), mul-le-mul-right (w ^ K) l))
 
 -- a / (g b) for a / b
 unfoldable pub rescale : ℕ → ℕ → List ℕ → List ℕ

@@ -31,7 +31,7 @@ pub h-grow : (K x y : ℕ) (p : List ℕ) (a b c d : ℕ) → c * b ≤ a * d
 unfolding h
 h-grow K x y p a b c d l =
     rw (pow-succ' b (suc K), pow-succ' d (suc K), pow-succ' b K, pow-succ' d K)
-      (grow x y a b c d (b * b ^ K) (d * d ^ K) (h K p c d) (h K p a b) (squares a b c d (b ^ K) (d ^ K) (h K p c d) (h K p a b) l (h-mono K p c d a b l)))
+    (grow x y a b c d (b * b ^ K) (d * d ^ K) (h K p c d) (h K p a b) (squares a b c d (b ^ K) (d ^ K) (h K p c d) (h K p a b) l (h-mono K p c d a b l)))
 
 rest : List ℕ → List ℕ
 rest [] = []

@@ -82,8 +82,14 @@ h-mul zero L (c ∷ []) q a b t u =
 h-mul zero L (c ∷ d ∷ p) q a b t u = absurd t
 h-mul (suc K) L [] q a b t u = rw (h-nil (suc K + L) a b) (omega arith)
 h-mul (suc K) L (c ∷ p) q a b t u =
-    rw (suc-add K L, mul-cons (suc (K + L)) c p q a b, h-add (suc (K + L)) (scale c q) (0 ∷ mul p q) a b, h-scale (suc (K + L)) c q a b,
-        h-mul K L p q a b t u, rw (suc-add K L) at (h-lift (suc K) L q a b u)) (omega arith)
+    rw (
+      suc-add K L,
+      mul-cons (suc (K + L)) c p q a b,
+      h-add (suc (K + L)) (scale c q) (0 ∷ mul p q) a b,
+      h-scale (suc (K + L)) c q a b,
+      h-mul K L p q a b t u,
+      rw (suc-add K L) at (h-lift (suc K) L q a b u),
+    ) (omega arith)
 
 -- the degrees
 pub fits-lift : (K : ℕ) (p : List ℕ) → T (fits K p) → T (fits (suc K) p)
@@ -130,7 +136,7 @@ fits-mul zero L (c ∷ d ∷ p) q t u = absurd t
 fits-mul (suc K) L (zero ∷ p) q t u = rw (suc-add K L) (fits-mul K L p q t u)
 fits-mul (suc K) L (suc c ∷ p) q t u =
     rw (suc-add K L, axpy-is (suc c) q (0 ∷ mul p q)) (fits-add (suc (K + L)) (scale (suc c) q) (0 ∷ mul p q)
-      (fits-scale (suc (K + L)) (suc c) q (rw (suc-add K L) at (fits-up (suc K) L q u))) (fits-mul K L p q t u))
+    (fits-scale (suc (K + L)) (suc c) q (rw (suc-add K L) at (fits-up (suc K) L q u))) (fits-mul K L p q t u))
 
 -- ---- order
 -- coefficient by coefficient, what q has more than p
@@ -168,8 +174,8 @@ near K q p a b c d t W l z test =
     small : h K (sub q p) a b * t ≤ W * b ^ K
     small =
         le-of-mul-le-mul-right {k = d ^ K}
-          (omega (arith, mul-le-mul-right t (h-mono K (sub q p) a b c d l), mul-le-mul-right (b ^ K) test))
-          (one-le-pow K d z)
+        (omega (arith, mul-le-mul-right t (h-mono K (sub q p) a b c d l), mul-le-mul-right (b ^ K) test))
+        (one-le-pow K d z)
 
 -- ---- composition
 pub pow-mul : (x y n : ℕ) → (x * y) ^ n ≡ x ^ n * y ^ n
@@ -187,8 +193,8 @@ fits-comp zero m (c ∷ p) U s t = fits-one (0 * m) c
 fits-comp (suc n) m [] U s t = fits-nil (suc n * m)
 fits-comp (suc n) m (c ∷ p) U s t =
     rw (suc-mul n m, add-comm (n * m) m)
-      (fits-add (m + n * m) (c * U ^ suc n ∷ []) (mul s (comp n p U s)) (fits-one (m + n * m) (c * U ^ suc n))
-        (fits-mul m (n * m) s (comp n p U s) t (fits-comp n m p U s t)))
+    (fits-add (m + n * m) (c * U ^ suc n ∷ []) (mul s (comp n p U s)) (fits-one (m + n * m) (c * U ^ suc n))
+    (fits-mul m (n * m) s (comp n p U s) t (fits-comp n m p U s t)))
 
 pub h-comp : (n m : ℕ) (p : List ℕ) (U : ℕ) (s : List ℕ) (a b : ℕ) → T (fits m s)
     → h n p (h m s a b) (U * b ^ m) ≡ h (n * m) (comp n p U s) a b
@@ -197,6 +203,15 @@ h-comp zero m [] U s a b t = rw (zero-mul m)
 h-comp zero m (c ∷ p) U s a b t = rw (zero-mul m)
 h-comp (suc n) m [] U s a b t = rw (h-nil (suc n * m) a b)
 h-comp (suc n) m (c ∷ p) U s a b t =
-    rw (suc-mul n m, add-comm (n * m) m, h-add (m + n * m) (c * U ^ suc n ∷ []) (mul s (comp n p U s)) a b,
-        h-const (m + n * m) (c * U ^ suc n) a b, h-mul m (n * m) s (comp n p U s) a b t (fits-comp n m p U s t),
-        h-comp n m p U s a b t, pow-mul U (b ^ m) (suc n), pow-pow b m (suc n), suc-mul n m, add-comm (n * m) m) (omega arith)
+    rw (
+      suc-mul n m,
+      add-comm (n * m) m,
+      h-add (m + n * m) (c * U ^ suc n ∷ []) (mul s (comp n p U s)) a b,
+      h-const (m + n * m) (c * U ^ suc n) a b,
+      h-mul m (n * m) s (comp n p U s) a b t (fits-comp n m p U s t),
+      h-comp n m p U s a b t,
+      pow-mul U (b ^ m) (suc n),
+      pow-pow b m (suc n),
+      suc-mul n m,
+      add-comm (n * m) m,
+    ) (omega arith)

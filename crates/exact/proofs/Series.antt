@@ -87,11 +87,11 @@ through-down a b c d u v x y t z l m n = omega (arith, carry-down (b * t) (a * t
 pub upper : (a b : ℕ) → zero < b → a * 3 ≤ 1 * b → b * pS a b * 2 ^ 93 ≤ (uS * b ^ 1082 + a * (uS * b ^ 1081) + a * pS a b) * 2 ^ 93 + uS * b ^ 1082
 upper a b z l =
     rw (pow-succ' b 1081)
-      (through-up a b (b ^ 63) (b ^ 1081) uS (pS a b) (h 63 lo a b) (h 63 hi a b) (2 ^ 93) (one-le-pow 63 b z) (lo-is a b) (is-hi a b (omega arith))
-        (rw (lift hi a b fits-h, next-is lo a b, pow-succ' b 63) at (near 64 hi (next lo) a b 1 3 (2 ^ 93) uS l (lit< tt) no-more)))
+    (through-up a b (b ^ 63) (b ^ 1081) uS (pS a b) (h 63 lo a b) (h 63 hi a b) (2 ^ 93) (one-le-pow 63 b z) (lo-is a b) (is-hi a b (omega arith))
+    (rw (lift hi a b fits-h, next-is lo a b, pow-succ' b 63) at (near 64 hi (next lo) a b 1 3 (2 ^ 93) uS l (lit< tt) no-more)))
 
 pub lower : (a b : ℕ) → zero < b → a * 3 ≤ 1 * b → (uS * b ^ 1082 + a * (uS * b ^ 1081) + a * pS a b) * 2 ^ 81 ≤ b * pS a b * 2 ^ 81 + uS * b ^ 1082
 lower a b z l =
     rw (pow-succ' b 1081)
-      (through-down a b (b ^ 63) (b ^ 1081) uS (pS a b) (h 63 lo a b) (h 63 hi a b) (2 ^ 81) (one-le-pow 63 b z) (lo-is a b) (is-hi a b (omega arith))
-        (rw (lift lo a b fits-l, next-is hi a b, pow-succ' b 63) at (near 64 (next hi) lo a b 1 3 (2 ^ 81) uS l (lit< tt) little-less)))
+    (through-down a b (b ^ 63) (b ^ 1081) uS (pS a b) (h 63 lo a b) (h 63 hi a b) (2 ^ 81) (one-le-pow 63 b z) (lo-is a b) (is-hi a b (omega arith))
+    (rw (lift lo a b fits-l, next-is hi a b, pow-succ' b 63) at (near 64 (next hi) lo a b 1 3 (2 ^ 81) uS l (lit< tt) little-less)))

@@ -72,8 +72,14 @@ h2-bin zero [] a c b = refl
 h2-bin zero (x ∷ p) a c b = refl
 h2-bin (suc n) [] a c b = refl
 h2-bin (suc n) (x ∷ p) a c b =
-    rw (h2-add (suc n) ((x ∷ []) ∷ []) (add2 (shift2 (bin n p)) ([] ∷ bin n p)) a c b, h2-add (suc n) (shift2 (bin n p)) ([] ∷ bin n p) a c b,
-        h2-shift n (bin n p) a c b, h2-nil n a c b, h-nil n a b, h2-bin n p a c b) (omega arith)
+    rw (
+      h2-add (suc n) ((x ∷ []) ∷ []) (add2 (shift2 (bin n p)) ([] ∷ bin n p)) a c b,
+      h2-add (suc n) (shift2 (bin n p)) ([] ∷ bin n p) a c b,
+      h2-shift n (bin n p) a c b,
+      h2-nil n a c b,
+      h-nil n a b,
+      h2-bin n p a c b,
+    ) (omega arith)
 
 -- ---- order
 unfoldable pub sub2 : List (List ℕ) → List (List ℕ) → List (List ℕ)
@@ -95,7 +101,7 @@ h2-mono K [] a c b x y d l m = rw (h2-nil K a c b) (omega arith)
 h2-mono zero (r ∷ p) a c b x y d l m = h-mono 0 r a b x d l
 h2-mono (suc K) (r ∷ p) a c b x y d l m =
     rw (pow-succ' b K, pow-succ' d K)
-      (omega (arith, (rw (pow-succ' b K, pow-succ' d K) at (h-mono (suc K) r a b x d l)), mul-le-mul m (h2-mono K p a c b x y d l m)))
+    (omega (arith, (rw (pow-succ' b K, pow-succ' d K) at (h-mono (suc K) r a b x d l)), mul-le-mul m (h2-mono K p a c b x y d l m)))
 
 pub near2 : (K : ℕ) (q p : List (List ℕ)) (a c b x y d t W : ℕ) → a * d ≤ x * b → c * d ≤ y * b → zero < d → h2 K (sub2 q p) x y d * t ≤ W * d ^ K
     → h2 K q a c b * t ≤ h2 K p a c b * t + W * b ^ K
@@ -104,5 +110,5 @@ near2 K q p a c b x y d t W l m z test = omega (arith, mul-le-mul-right t (h2-su
     small : h2 K (sub2 q p) a c b * t ≤ W * b ^ K
     small =
         le-of-mul-le-mul-right {k = d ^ K}
-          (omega (arith, mul-le-mul-right t (h2-mono K (sub2 q p) a c b x y d l m), mul-le-mul-right (b ^ K) test))
-          (one-le-pow K d z)
+        (omega (arith, mul-le-mul-right t (h2-mono K (sub2 q p) a c b x y d l m), mul-le-mul-right (b ^ K) test))
+        (one-le-pow K d z)

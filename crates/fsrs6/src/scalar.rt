@@ -1,9 +1,14 @@
 // The scalar functions, single and double. exp, ln and pow answer a NaN, refusal 10, outside their domain and nowhere else.
-use kernels::exp::{exp_f32, exp_f64};
-use kernels::ln::{ln_f32, ln_f64};
-use kernels::pow::{pow_f32, pow_f64};
-use soft::fma::{fma_f32, fma_f64};
-use soft::round::{round_f32, round_f64};
+use kernels::exp::exp_f32;
+use kernels::exp::exp_f64;
+use kernels::ln::ln_f32;
+use kernels::ln::ln_f64;
+use kernels::pow::pow_f32;
+use kernels::pow::pow_f64;
+use soft::fma::fma_f32;
+use soft::fma::fma_f64;
+use soft::round::round_f32;
+use soft::round::round_f64;
 ghost use mathlib.Core.Path.{_≡_};
 ghost use lib.Ieee.{binary32, binary64};
 ghost use Rattle.soft.specs.Fma.{fmaDef};

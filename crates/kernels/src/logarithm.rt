@@ -11,8 +11,8 @@ ghost use Rattle.wide.specs.Value.{valueOf};
 ghost use Rattle.kernels.specs.Core.{high, index, gap, below, logAt};
 ghost use Rattle.kernels.specs.LogSteps.{logUnits, logOf, Logged};
 use crate::index::index_of;
-use table::entry_at;
 use soft::units::measure;
+use table::entry_at;
 use wide::Wide;
 
 // ±(high * 2^32 + low) / 2^72.

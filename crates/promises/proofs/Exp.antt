@@ -39,6 +39,7 @@ cut-lo x b w s z h = le-trans (le-of-lt (lt-div-mul-add {a = x * w} z)) (le-tran
   where
     turn : (q b : ℕ) → q * b + b ≡ (q + 1) * b
     turn q b = omega arith
+
     more : (q s : ℕ) → 1 ≤ s → q + 1 ≤ q + s
     more q s h = omega arith
 
@@ -53,6 +54,7 @@ cut-le x b w r z h = le-trans (le-of-mul-le-mul-right {k = b} (le-trans (div-mul
   where
     turn : (r b w : ℕ) → r * b * w ≡ r * w * b
     turn r b w = omega arith
+
     more : (a : ℕ) → a ≤ a + 2 ^ 26
     more a = omega arith
 

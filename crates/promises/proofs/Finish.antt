@@ -89,10 +89,13 @@ module _ (f : Format) (K M : ℕ) (lo : 2 ^ 62 ≤ M) (hi : M < 2 ^ 63) (a : 204
         where
           half : (x y : ℕ) → x * 2 ≤ y * 2 → x ≤ y
           half x y h = omega arith
+
           turn : (q p : ℕ) → q * p * 2 ≡ q * 2 * p
           turn q p = omega arith
+
           spread : (m d p : ℕ) → (m * 2 + d) * p ≡ m * p * 2 + d * p
           spread m d p = omega arith
+
           sum : (m p w : ℕ) → 2 ^ 62 * 2 ≡ w → 2 ^ 62 ≤ m → m * p * 2 + w ≤ m * (p + 1) * 2
           sum m p w e l = omega arith
 
@@ -104,17 +107,22 @@ module _ (f : Format) (K M : ℕ) (lo : 2 ^ 62 ≤ M) (hi : M < 2 ^ 63) (a : 204
         where
           back : (p : ℕ) → 0 < p → p ≡ p - 1 + 1
           back p z = omega arith
+
           go : (r : ℕ) → p ≡ r + 1 → m * r ≤ q * p
           go r i = half (m * r) (q * p) (cancel (m * r * 2) (q * p * 2) (d * p) (m * 2) (le-trans (le-of-eq (unfolded m r p i)) (le-trans (mul-le-mul-right p h) (le-of-eq (spread q d p)))) (twice m (d * p) e l))
             where
               half : (x y : ℕ) → x * 2 ≤ y * 2 → x ≤ y
               half x y h = omega arith
+
               unfolded : (m r p : ℕ) → p ≡ r + 1 → m * r * 2 + m * 2 ≡ m * 2 * p
               unfolded m r p i = rw i (omega arith)
+
               spread : (q d p : ℕ) → (q * 2 + d) * p ≡ q * p * 2 + d * p
               spread q d p = omega arith
+
               twice : (m w : ℕ) → 2 ^ 62 * 2 ≡ w → 2 ^ 62 ≤ m → w ≤ m * 2
               twice m w e l = omega arith
+
               cancel : (x y w v : ℕ) → x + v ≤ y + w → w ≤ v → x ≤ y
               cancel x y w v h g = omega arith
 
@@ -138,16 +146,19 @@ over x W e c v n m r g p zr zg ex h1 h2 t zW =
   where
     a1 : c * e * (m * p * r * g) ≡ c * r * (e * m * p * g)
     a1 = simp ac
+
     a2 : v * (r + 1) * (e * m * p * g) ≡ v * m * g * ((r + 1) * e * p)
     a2 = swap (r + 1)
       where
         swap : (s : ℕ) → v * s * (e * m * p * g) ≡ v * m * g * (s * e * p)
         swap s = simp ac
+
     a3 : n * W * (g + 1) * ((r + 1) * e * p) ≡ n * W * e * ((r + 1) * (g + 1) * p)
     a3 = swap (g + 1) (r + 1)
       where
         swap : (s u : ℕ) → n * W * s * (u * e * p) ≡ n * W * e * (u * s * p)
         swap s u = simp ac
+
     a4 : n * W * e * (r * g * (p + 1)) ≡ n * e * (p + 1) * (W * (r * g))
     a4 = swap (p + 1)
       where
@@ -164,10 +175,13 @@ below x W e c v n m r r1 g g1 p p1 zr zg ex h1 h2 t zW =
   where
     a1 : c * r * (e * m * p * g) ≡ c * e * (m * p * r * g)
     a1 = simp ac
+
     a2 : v * m * g * (r1 * e * p) ≡ v * r1 * (e * m * p * g)
     a2 = simp ac
+
     a3 : n * W * e * (r1 * g1 * p) ≡ n * W * g1 * (r1 * e * p)
     a3 = simp ac
+
     a4 : n * e * p1 * (W * (r * g)) ≡ n * W * e * (r * g * p1)
     a4 = simp ac
 
@@ -195,9 +209,11 @@ finish-near f K M q lo hi a b h = go (finish f K M) (value f K M lo hi a b)
   where
     c : ℕ
     c = closest M (2 ^ dOf f)
+
     -- the kept significand in units of 2 ^ -2110
     join : 2 ^ (K - tOf f) * 2 ^ 2110 ≡ 2 ^ dOf f * 2 ^ K * 2 ^ low f
     join = sym (pow-add 2 (K - tOf f) 2110) ∙ ap (λ (x : ℕ). 2 ^ x) (joins f K (begins f K a)) ∙ pow-add 2 (dOf f + K) (low f) ∙ ap (λ (x : ℕ). x * 2 ^ low f) (pow-add 2 (dOf f) K)
+
     scaled-up : c * 2 ^ dOf f * 2 ^ K * 2 ^ prec f ≤ M * 2 ^ K * (2 ^ prec f + 1)
     scaled-up = lift (c * 2 ^ dOf f) M (2 ^ K) (2 ^ prec f) (2 ^ prec f + 1) (near-up f K M lo hi a b)
       where
@@ -206,6 +222,7 @@ finish-near f K M q lo hi a b h = go (finish f K M) (value f K M lo hi a b)
           where
             turn : (x k p : ℕ) → x * k * p ≡ x * p * k
             turn x k p = simp ac
+
     scaled-down : M * 2 ^ K * (2 ^ prec f - 1) ≤ c * 2 ^ dOf f * 2 ^ K * 2 ^ prec f
     scaled-down = lift M (c * 2 ^ dOf f) (2 ^ K) (2 ^ prec f - 1) (2 ^ prec f) (near-down f K M lo hi a b)
       where
@@ -214,6 +231,7 @@ finish-near f K M q lo hi a b h = go (finish f K M) (value f K M lo hi a b)
           where
             turn : (x k p : ℕ) → x * k * p ≡ x * p * k
             turn x k p = simp ac
+
     go : (y : Float) → HasValue y false (c * 2 ^ (K - tOf f)) (2 ^ low f) → Near (powerBits f) y q
     go nan v = absurd v
     go (inf s) v = absurd v

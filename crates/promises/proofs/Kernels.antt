@@ -24,5 +24,5 @@ kernels f = record {
   pow-one = pow-one f;
   pow-zero = pow-zero f;
   pow-at-most-one = pow-at-most-one f;
-  pow-refuses = pow-refuses f
+  pow-refuses = pow-refuses f;
 }

@@ -73,11 +73,13 @@ settle D v e w δ t r p q h hp hd z =
   where
     turn : (D p q k : ℕ) → D * (p * q) * k ≡ D * k * (p * q)
     turn D p q k = simp ac
+
     spread : (a t b δ p q : ℕ) → (a * t + δ * b) * (p * q) ≡ a * q * (t * p) + b * p * (δ * q)
     spread a t b δ p q = add-mul (a * t) (δ * b) (p * q) ∙ ap (λ (x : ℕ). x + δ * b * (p * q)) (one a t p q) ∙ ap (λ (x : ℕ). a * q * (t * p) + x) (two b δ p q)
       where
         one : (a t p q : ℕ) → a * t * (p * q) ≡ a * q * (t * p)
         one a t p q = simp ac
+
         two : (b δ p q : ℕ) → δ * b * (p * q) ≡ b * p * (δ * q)
         two b δ p q = simp ac
 
@@ -91,8 +93,10 @@ up-go x e g v w δ t r p q h1 h2 hp hd z =
   where
     a1 : (x w t r : ℕ) → x * w * (t * r) ≡ x * t * r * w
     a1 x w t r = simp ac
+
     a2 : (g e s w : ℕ) → g * e * s * w ≡ g * w * (e * s)
     a2 g e s w = simp ac
+
     a3 : (v t δ w e r : ℕ) → (v * t + δ * w) * (e * (r + 1)) ≡ v * e * (t * r) + (v * e * t + δ * (r + 1) * (w * e))
     a3 v t δ w e r = omega arith
 
@@ -106,10 +110,13 @@ down-go x e g v w δ t r r1 p q h1 h2 er hp hd z =
   where
     a1 : (v e t s : ℕ) → v * e * (t * (s + 1)) ≡ v * t * (e * s) + v * e * t
     a1 v e t s = omega arith
+
     a2 : (g δ w e s : ℕ) → (g + δ) * w * (e * s) ≡ g * e * s * w + δ * s * (w * e)
     a2 g δ w e s = omega arith
+
     a3 : (x t r w : ℕ) → x * t * r * w ≡ x * w * (t * r)
     a3 x t r w = simp ac
+
     a4 : (a b c : ℕ) → a + b + c ≡ a + (c + b)
     a4 a b c = omega arith
 
@@ -145,6 +152,7 @@ carry-up x c e g l t p r z h k = le-of-mul-le-mul-right {k = l} (le-trans (le-of
   where
     a1 : (c e t p : ℕ) → c * e * (t * p) ≡ c * t * p * e
     a1 c e t p = simp ac
+
     a2 : (g l r e : ℕ) → g * l * r * e ≡ g * e * r * l
     a2 g l r e = simp ac
 
@@ -153,6 +161,7 @@ carry-down x c e g l t p r z h k = le-of-mul-le-mul-right {k = l} (le-trans (le-
   where
     a1 : (c e t p : ℕ) → c * t * p * e ≡ c * e * (t * p)
     a1 c e t p = simp ac
+
     a2 : (g l r e : ℕ) → g * e * r * l ≡ g * l * r * e
     a2 g l r e = simp ac
 
@@ -182,6 +191,7 @@ module _ (f : Format) (m : ℕ) (e : ℤ) (k : T (fits f (fin false (suc m) e)))
     where
       back : (p : ℕ) → 0 < p → p ≡ p - 1 + 1
       back p h = omega arith
+
       under : (p : ℕ) → p - 1 ≤ p + 1
       under p = omega arith
 
@@ -210,6 +220,7 @@ module _ (f : Format) (m : ℕ) (e : ℤ) (k : T (fits f (fin false (suc m) e)))
     where
       twice-lt : (x y : ℕ) → x < y → x * 2 < y * 2
       twice-lt x y h = omega arith
+
       sum : (l : ℕ) → 82 + l + 1 ≡ l + 11 + 72
       sum l = omega arith
 

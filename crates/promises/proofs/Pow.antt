@@ -35,6 +35,7 @@ module _ (x b g v w δ σ : ℕ) (zb : 0 < b) (y : x ≤ 16 * b) (room : 16 * δ
     where
       sum : (a c d : ℕ) → a ≤ d → a + c ≤ d + c
       sum a c d h = omega arith
+
       turn : (b δ w : ℕ) → 16 * b * (δ * w) + b * w ≡ (16 * δ + 1) * (b * w)
       turn b δ w = omega arith
 
@@ -44,6 +45,7 @@ module _ (x b g v w δ σ : ℕ) (zb : 0 < b) (y : x ≤ 16 * b) (room : 16 * δ
     where
       spread : (x v t δ w : ℕ) → x * (v * t + δ * w) ≡ x * v * t + x * (δ * w)
       spread x v t δ w = omega arith
+
       tail : (a c d s : ℕ) → c + d ≤ s → a + c ≤ a + s
       tail a c d s h = omega arith
 
@@ -54,12 +56,16 @@ module _ (x b g v w δ σ : ℕ) (zb : 0 < b) (y : x ≤ 16 * b) (room : 16 * δ
     where
       spread : (x g δ w : ℕ) → x * ((g + δ) * w) ≡ x * g * w + x * (δ * w)
       spread x g δ w = omega arith
+
       turn : (q b w : ℕ) → (q * b + b) * w ≡ (q + 1) * (b * w)
       turn q b w = omega arith
+
       sum : (a c d : ℕ) → a ≤ d → a + c ≤ d + c
       sum a c d h = omega arith
+
       join : (q z c : ℕ) → (q + 1) * z + c ≡ q * z + (c + z)
       join q z c = omega arith
+
       last : (a c s : ℕ) → c ≤ s → a + c ≤ a + s
       last a c s h = omega arith
 
@@ -70,8 +76,10 @@ reaches q z a r t σ h k l c =
   where
     sum : (a c d : ℕ) → a ≤ d → a + c ≤ d + c
     sum a c d h = omega arith
+
     turn : (r z t σ : ℕ) → r * z * t + σ * z ≡ (r * t + σ) * z
     turn r z t σ = omega arith
+
     more : (a σ : ℕ) → σ ≤ 2 ^ 26 → a + σ ≤ a + 2 ^ 26
     more a σ h = omega arith
 
@@ -100,6 +108,7 @@ passes q z a r t σ h k l c = less (r * t) q σ c (le-of-mul-le-mul-right {k = z
   where
     turn : (r z t : ℕ) → r * t * z ≡ r * z * t
     turn r z t = simp ac
+
     less : (a q σ : ℕ) → σ ≤ 2 ^ 26 → a ≤ q + σ → a - 2 ^ 26 ≤ q
     less a q σ c h = omega arith
 

@@ -115,8 +115,10 @@ up-to-zero n d h = none (n * up d) (go (or-yes (ltb (n * up d * 1) (0 * 1 * down
   where
     none : (x : ℕ) → x * 1 ≤ 0 → x ≡ 0
     none x h = omega arith
+
     nought : 0 * 1 * down d ≤ 0
     nought = le-of-eq (zero-mul (down d))
+
     go : T (ltb (n * up d * 1) (0 * 1 * down d)) ⊎ T (eqb (n * up d * 1) (0 * 1 * down d) && true) → n * up d * 1 ≤ 0
     go (inl l) = le-trans (le-of-lt (ltb→lt (n * up d * 1) (0 * 1 * down d) l)) nought
     go (inr q) = le-trans (le-of-eq (eqb→eq (n * up d * 1) (0 * 1 * down d) (and-l (eqb (n * up d * 1) (0 * 1 * down d)) true q))) nought

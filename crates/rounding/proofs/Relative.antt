@@ -20,8 +20,10 @@ up-go q n u p h l = half (q * p) (n * (p + 1)) (le-trans (le-of-eq (turn q p)) (
   where
     half : (x y : ℕ) → x * 2 ≤ y * 2 → x ≤ y
     half x y h = omega arith
+
     turn : (q p : ℕ) → q * p * 2 ≡ q * 2 * p
     turn q p = omega arith
+
     sum : (n u p : ℕ) → u * p ≤ n * 2 → (n * 2 + u) * p ≤ n * (p + 1) * 2
     sum n u p l = omega arith
 
@@ -30,10 +32,13 @@ down-go q n u r h l = half (n * r) (q * (r + 1)) (cancel (n * r * 2) (q * (r + 1
   where
     half : (x y : ℕ) → x * 2 ≤ y * 2 → x ≤ y
     half x y h = omega arith
+
     turn : (n r : ℕ) → n * r * 2 + n * 2 ≡ n * 2 * (r + 1)
     turn n r = omega arith
+
     spread : (q u p : ℕ) → (q * 2 + u) * p ≡ q * p * 2 + u * p
     spread q u p = omega arith
+
     cancel : (x y w v : ℕ) → x + v ≤ y + w → w ≤ v → x ≤ y
     cancel x y w v h g = omega arith
 
@@ -58,8 +63,10 @@ module _ (f : Format) (s : Bool) (num den : ℕ) (d0 : 0 < den) (normal : prec f
     where
       back : (p : ℕ) → 2 ≤ p → p - 1 + 1 ≡ p
       back p h = omega arith
+
       under : (z p : ℕ) → 2 ≤ p → p ≤ z → z - p + (p - 1) < z
       under z p a b = omega arith
+
       turn : (d k p : ℕ) → d * k * (p * 2) ≡ k * p * d * 2
       turn d k p = simp ac
 
