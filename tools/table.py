@@ -23,14 +23,12 @@ def literal(n):
     return "0x" + "_".join(digits[j : j + 4] for j in range(0, 16, 4))
 
 
-SOURCE = """// The fractional powers of two: 2^62 * 2^(i / 256), cut to a whole number; 2^63 stands at 256. `tools/table.py` writes this
+SOURCE = """// The fractional powers of two: 2^62 * 2^(i / 256), cut to a whole number; 2^63 from 256 on. `tools/table.py` writes this
 // file. A `match` of constants compiles to one load, where a constant array is built anew at each call.
 ghost use mathlib.Core.Path.{_≡_};
-ghost use Prim.Native.Nat.{_≤_};
 ghost use Rattle.table.specs.Entry.{entry};
 
 pub fn entry_at(i: u64) -> u64
-    requires { ⌜ i ≤ 256 ⌝ }
     ensures { λ r. ⌜ r ≡ entry i ⌝ }
 {
     match i {
@@ -67,7 +65,7 @@ def main():
         for i in range(ENTRIES)
     )
     end = name(ENTRIES + 1)
-    needs += f"{end} : tie.Need-{end}\n{end} c = last (c .before .args .i) (c .before .pre) (c .match .rest)\n"
+    needs += f"{end} : tie.Need-{end}\n{end} c = last (c .before .args .i) (c .match .rest)\n"
     listed = "\n".join("    " + name(k) for k in range(1, ENTRIES + 2))
     for path, text in (("src/lib.rt", SOURCE % arms), ("proofs/entry_at/Proof.antt", PROOF % (needs, listed))):
         path = os.path.join(root, path)

@@ -3,12 +3,11 @@ use mathlib.Core.Path.{_≡_, sym, ap, _∙_}
 use mathlib.Core.List.{[], _∷_}
 use Prim.Native.Nat.{ℕ, zero, suc, _^_, _≤_}
 use Prim.Native.Nat.{zero-le}
-use native.Mathlib.Nat.{le-antisymm}
 use lib.Arith.{lt-of-le-ne}
 use lib.Dec.{T, eqb, eqb→eq}
 use types.Run.{OneOf}
 use Rattle.table.specs.Entry.{entry}
-use Rattle.table.proofs.Entries.{entry-last}
+use Rattle.table.proofs.Entries.{entry-end}
 
 -- v is the entry k, which is computed
 pub arm : {v i : ℕ} (k : ℕ) → T (eqb v (entry k)) → i ≡ k → v ≡ entry i
@@ -23,5 +22,5 @@ past : (k i : ℕ) → None k i → k ≤ i
 past zero i h = zero-le
 past (suc k) i h = lt-of-le-ne (past k i (h .0)) (λ (e : k ≡ i). h .1 (sym e))
 
-pub last : (i : ℕ) → i ≤ 256 → None 256 i → 2 ^ 63 ≡ entry i
-last i h n = sym (ap entry (le-antisymm h (past 256 i n)) ∙ entry-last)
+pub last : (i : ℕ) → None 256 i → 2 ^ 63 ≡ entry i
+last i n = sym (entry-end i (past 256 i n))

@@ -1,14 +1,15 @@
 -- The table's entries, one after the other, and how large they are. Assumes nothing.
 use mathlib.Core.Path.{_≡_, refl, sym, ap, _∙_, subst}
-use mathlib.Core.Bool.{Bool, _&&_}
+use mathlib.Core.Bool.{Bool, cond, _&&_}
 use mathlib.Core.List.{List, [], _∷_}
 use mathlib.Core.Logic.{inl, inr}
-use Prim.Native.Nat.{ℕ, zero, suc, _+_, _^_, _≤_, _<_}
+use Prim.Native.Nat.{ℕ, zero, suc, _+_, _*_, _/_, _^_, _≤_, _<_}
 use native.Mathlib.Nat.{add-zero, add-suc, suc-add, zero-add, le-of-suc-le-suc, not-suc-le-zero, le-of-lt, eq-or-lt-of-le}
 use lib.Dec.{T, leb, ltb, leb→le, ltb→lt, lit≤}
 use lib.Ieee.Fits.{and-l, and-r}
 use lib.ListN.{getD}
-use Rattle.exact.specs.Exact.{P, taylor, fact}
+use borrow.Author.Tests.{le-ltb}
+use Rattle.exact.specs.Exact.{N, P, taylor, fact}
 use Rattle.table.specs.Entry.{entry}
 use Rattle.table.proofs.Every.{every, at}
 
@@ -49,9 +50,12 @@ pub entry-ge : (i : ℕ) → i < 256 → 2 ^ 62 ≤ entry i
 unfolding within
 entry-ge i h = leb→le (2 ^ 62) (entry i) (and-l (leb (2 ^ 62) (entry i)) (ltb (entry i) (2 ^ 63)) (in-range i h))
 
-pub entry-last : entry 256 ≡ 2 ^ 63
+pub entry-end : (i : ℕ) → 256 ≤ i → entry i ≡ 2 ^ 63
 unfolding entry
-entry-last = refl
+entry-end i h = ap (λ (b : Bool). cond b (2 ^ 62 * P (i * N) (2 ^ 72) .num / P (i * N) (2 ^ 72) .den) (2 ^ 63)) (le-ltb i 256 h)
+
+pub entry-last : entry 256 ≡ 2 ^ 63
+entry-last = entry-end 256 (lit≤ tt)
 
 pub entry-zero : entry 0 ≡ 2 ^ 62
 unfolding entry P taylor fact

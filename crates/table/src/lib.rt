@@ -1,11 +1,9 @@
-// The fractional powers of two: 2^62 * 2^(i / 256), cut to a whole number; 2^63 stands at 256. `tools/table.py` writes this
+// The fractional powers of two: 2^62 * 2^(i / 256), cut to a whole number; 2^63 from 256 on. `tools/table.py` writes this
 // file. A `match` of constants compiles to one load, where a constant array is built anew at each call.
 ghost use mathlib.Core.Path.{_≡_};
-ghost use Prim.Native.Nat.{_≤_};
 ghost use Rattle.table.specs.Entry.{entry};
 
 pub fn entry_at(i: u64) -> u64
-    requires { ⌜ i ≤ 256 ⌝ }
     ensures { λ r. ⌜ r ≡ entry i ⌝ }
 {
     match i {

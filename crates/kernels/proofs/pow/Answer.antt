@@ -3,7 +3,7 @@ use mathlib.Core.Path.{_≡_, refl, sym, ap, ap₂, _∙_, subst}
 use mathlib.Core.Bool.{Bool, true, false, cond, true≢false}
 use mathlib.Core.Logic.{_⊎_, inl, inr}
 use Prim.Native.Nat.{ℕ, zero, suc, _+_, _*_, _/_, _^_, _≤_, _<_}
-use native.Mathlib.Nat.{le-trans, le-of-eq, mul-assoc, mul-comm, mul-left-comm, mul-le-mul-right, le-of-mul-le-mul-right, eq-zero-or-pos, zero-lt-suc}
+use native.Mathlib.Nat.{le-trans, le-of-eq, mul-assoc, mul-comm, mul-le-mul-right, le-of-mul-le-mul-right, eq-zero-or-pos, zero-lt-suc}
 use native.Mathlib.Omega.{arith}
 use borrow.Author.Tests.{le-leb, lt-ltb}
 use lib.Dec.{T, leb, lit≤}
@@ -82,7 +82,7 @@ cut-units t n d w h =
     div-same (v * w) (2 ^ 1074) (n * up d * w) (down d) (pow-pos 1074) (down-pos d) (swap v w (down d) (n * up d) (2 ^ 1074) (measured binary64 (fin t n d) h tt .1))
   where
     turn : (a b c : ℕ) → a * b * c ≡ a * c * b
-    turn a b c = simp (mul-assoc, mul-comm, mul-left-comm)
+    turn a b c = simp (mul-assoc, mul-comm)
 
     swap : (v w d u k : ℕ) → u * k ≡ v * d → v * w * d ≡ u * w * k
     swap v w d u k e = turn v w d ∙ ap (λ (x : ℕ). x * w) (sym e) ∙ turn u k w

@@ -7,7 +7,7 @@ use native.Mathlib.Omega.{arith}
 use lib.Dec.{lit<}
 use lib.Ieee.{Format, binary32, binary64}
 use lib.Pow.{pow-add}
-use borrow.Author.Tests.{ne-eqb}
+use borrow.Author.Tests.{lt-ltb}
 use Rattle.exact.specs.Exact.{N, P}
 use Rattle.exact.proofs.Poly.{h}
 use Rattle.exact.proofs.Fixed.{fx}
@@ -90,7 +90,7 @@ module _ (f : Format) (w a s x : ℕ) (z : zero < w) (sl : s * 10 ≤ 7 * w) (al
 -- ---- the table's entries: the definition is the rule
 entry-is : (i : ℕ) → i < 256 → entry i ≡ 2 ^ 62 * Q (i * N) (2 ^ 64) / den (2 ^ 64)
 unfolding entry
-entry-is i l = rw (ne-eqb i 256 (λ e. omega arith), P-num (i * N) (2 ^ 72), P-den (i * N) (2 ^ 72))
+entry-is i l = rw (lt-ltb i 256 l, P-num (i * N) (2 ^ 72), P-den (i * N) (2 ^ 72))
 
 D-pos : zero < den (2 ^ 64)
 D-pos = den-pos (2 ^ 64) (lit< tt)

@@ -1030,7 +1030,7 @@ unfolding entry P taylor fact
 returns-256 c = arm 255 tt (c .match .keys256)
 
 returns-257 : tie.Need-returns-257
-returns-257 c = last (c .before .args .i) (c .before .pre) (c .match .rest)
+returns-257 c = last (c .before .args .i) (c .match .rest)
 
 pub entry-at-spec : {M : Type 1} → statement M
 entry-at-spec =
