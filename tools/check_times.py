@@ -1,0 +1,36 @@
+#!/usr/bin/env python3
+"""Writes docs/CHECK-TIMES.md from what the gate printed: tools/check_times.py LOG SECONDS, where LOG is the output of .ci/run and
+SECONDS what the whole of it took."""
+import datetime
+import os
+import re
+import sys
+
+
+def main():
+    if len(sys.argv) != 3:
+        sys.exit(__doc__)
+    proved, edits, last = {}, {}, ""
+    with open(sys.argv[1], encoding="utf-8", errors="replace") as log:
+        for line in log:
+            if m := re.match(r"rt: (\w+) proved \((\d+) s\)", line):
+                proved[m[1]] = int(m[2])
+            elif m := re.match(r"rt: must-fail (\w+)/(\w+): refused, as it must be \(first at .*; (\d+) s\)", line):
+                edits.setdefault(m[1], []).append(int(m[3]))
+            elif re.match(r"\d+ passed, \d+ failed", line):
+                last = line.strip()
+    whole = int(sys.argv[2])
+    out = ["# Check times", "", f"Seconds on 2 processors (aarch64), from nothing, {datetime.date.today()}. `tools/check_times.py` writes this page from the", "gate's output. Two must-fail edits run at a time, so a crate's edits take about half of their sum.", ""]
+    out += ["| crate | proved in | must-fail edits | seconds of one | half of their sum |", "| --- | --- | --- | --- | --- |"]
+    for crate, seconds in proved.items():
+        e = edits.get(crate, [])
+        each = f"{min(e)} to {max(e)}" if e else ""
+        out.append(f"| `{crate}` | {seconds} | {len(e) or ''} | {each} | {sum(e) // 2 if e else ''} |")
+    out += ["", f"The whole gate: {whole} seconds ({whole / 60:.1f} minutes), '{last}'."]
+    path = os.path.join(os.path.dirname(os.path.abspath(__file__)), "..", "docs", "CHECK-TIMES.md")
+    with open(path, "w", encoding="utf-8") as page:
+        page.write("\n".join(out) + "\n")
+
+
+if __name__ == "__main__":
+    main()
