@@ -8,7 +8,7 @@ use Rattle.promises.proofs.Pow.{pow-near, pow-ends}
 use Rattle.promises.proofs.Values.{exp-zero, ln-one, pow-one, pow-zero, pow-at-most-one}
 use Rattle.promises.proofs.Refusals.{exp-refuses, ln-refuses, pow-refuses}
 use Rattle.promises.proofs.power.Near.{power-near, mantissa-in}
-use Rattle.promises.proofs.logarithm.Meets.{meets}
+use Rattle.promises.proofs.logarithm.Near.{logarithm-near}
 
 pub kernels : (f : Format) → Kernels f
 kernels f = record {
@@ -16,11 +16,11 @@ kernels f = record {
   exp-ends = exp-ends f;
   exp-zero = exp-zero f;
   exp-refuses = exp-refuses f;
-  ln-close = ln-close f (meets f);
+  ln-close = ln-close f (logarithm-near f);
   ln-one = ln-one f;
   ln-refuses = ln-refuses f;
-  pow-near = pow-near f (power-near f) (mantissa-in f) (meets f);
-  pow-ends = pow-ends f (meets f);
+  pow-near = pow-near f (power-near f) (mantissa-in f) (logarithm-near f);
+  pow-ends = pow-ends f (logarithm-near f);
   pow-one = pow-one f;
   pow-zero = pow-zero f;
   pow-at-most-one = pow-at-most-one f;

@@ -19,7 +19,9 @@ use Rattle.kernels.specs.Kernels.{lnDef}
 use Rattle.rounding.proofs.Place.{round-none}
 use Rattle.rounding.proofs.Relative.{kept-up, kept-down, kept-value}
 use Rattle.promises.specs.Kernels.{Close, LnClose, logBits}
-use Rattle.promises.proofs.Cores.{LogNear, LogarithmNear, error}
+use Rattle.promises.proofs.Cores.{LogarithmNear}
+use Rattle.promises.proofs.logarithm.Core.{error}
+use Rattle.promises.proofs.logarithm.Near.{LogNear}
 use Rattle.promises.proofs.logarithm.Size.{mag-lt as size-of-log}
 
 ruleset ac = (mul-assoc, mul-comm, mul-left-comm)
@@ -165,7 +167,7 @@ carry-down x c e g l t p r z h k = le-of-mul-le-mul-right {k = l} (le-trans (le-
     a2 : (g l r e : ℕ) → g * e * r * l ≡ g * l * r * e
     a2 g l r e = simp ac
 
-module _ (f : Format) (m : ℕ) (e : ℤ) (k : T (fits f (fin false (suc m) e))) (near : LogNear f (suc m) e) where
+module _ (f : Format) (m : ℕ) (e : ℤ) (k : T (fits f (fin false (suc m) e))) (near : LogNear f (logarithm f (suc m) e) (L (suc m) e)) where
   abbrev g : ℕ
   g = logarithm f (suc m) e .mag
 

@@ -12,7 +12,9 @@ use Rattle.kernels.specs.Core.{logarithm}
 use Rattle.kernels.proofs.Cases.{at-most-16, in-domain}
 use Rattle.kernels.specs.Kernels.{fromPower, cut, powDef}
 use Rattle.promises.specs.Kernels.{Near, PowNear, PowEnds, argument, powerBits, reach, edge, ended}
-use Rattle.promises.proofs.Cores.{PowerNear, MantissaIn, LogNear, LogarithmNear, slack, error}
+use Rattle.promises.proofs.Cores.{PowerNear, MantissaIn, LogarithmNear, slack}
+use Rattle.promises.proofs.logarithm.Core.{error}
+use Rattle.promises.proofs.logarithm.Near.{LogNear, L-den-pos}
 use Rattle.promises.proofs.Exp.{power-near}
 use Rattle.promises.proofs.Ends.{power-ends}
 use Rattle.promises.proofs.Ln.{digits-below}
@@ -86,7 +88,7 @@ reaches q z a r t σ h k l c =
 pub pow-near : (f : Format) → PowerNear f → MantissaIn f → LogarithmNear f → PowNear f
 pow-near f core mant near m e t n d k l p r = at (near (suc m) e (zero-lt-suc m) (digits-below f m e k))
   where
-    at : LogNear f (suc m) e → Near (powerBits f) (powDef f (fin false (suc m) e) (fin t n d))
+    at : LogNear f (logarithm f (suc m) e) (L (suc m) e) → Near (powerBits f) (powDef f (fin false (suc m) e) (fin t n d))
         (E (unlike (L (suc m) e .negative) t) (argument n d (L (suc m) e .size) .num) (argument n d (L (suc m) e .size) .den))
     at a =
         let g = logarithm f (suc m) e .mag in
@@ -94,7 +96,7 @@ pow-near f core mant near m e t n d k l p r = at (near (suc m) e (zero-lt-suc m)
         let w = L (suc m) e .size .den in
         let x = n * up d in
         let b = down d in
-        let z = mul-pos (down-pos d) (a .den-pos) in
+        let z = mul-pos (down-pos d) (L-den-pos (suc m) e (zero-lt-suc m)) in
         let above = hi x b g v w (error f) (slack f) (down-pos d) (at-most-16 t n d p) (slack-is f) (2 ^ 72) (a .above) in
         let under = lo x b g v w (error f) (slack f) (down-pos d) (at-most-16 t n d p) (slack-is f) (2 ^ 72) (a .below) in
         subst (λ (y : Float). Near (powerBits f) y (E (unlike (L (suc m) e .negative) t) (x * v) (b * w))) (sym (in-domain f m e (fin t n d) p))
@@ -115,7 +117,7 @@ passes q z a r t σ h k l c = less (r * t) q σ c (le-of-mul-le-mul-right {k = z
 pub pow-ends : (f : Format) → LogarithmNear f → PowEnds f
 pow-ends f near m e t n d k l p r = at (near (suc m) e (zero-lt-suc m) (digits-below f m e k))
   where
-    at : LogNear f (suc m) e → powDef f (fin false (suc m) e) (fin t n d) ≡ ended (unlike (L (suc m) e .negative) t)
+    at : LogNear f (logarithm f (suc m) e) (L (suc m) e) → powDef f (fin false (suc m) e) (fin t n d) ≡ ended (unlike (L (suc m) e .negative) t)
     at a =
         let g = logarithm f (suc m) e .mag in
         let v = L (suc m) e .size .num in
@@ -124,5 +126,5 @@ pow-ends f near m e t n d k l p r = at (near (suc m) e (zero-lt-suc m) (digits-b
         let b = down d in
         let under = lo x b g v w (error f) (slack f) (down-pos d) (at-most-16 t n d p) (slack-is f) (2 ^ 72) (a .below) in
         in-domain f m e (fin t n d) p
-        ∙ power-ends f (unlike (logarithm f (suc m) e .negative) t) (cut n d g) (passes (cut n d g) (b * w) (x * v) (edge f) (2 ^ 72) (slack f) (mul-pos (down-pos d) (a .den-pos)) under r (slack-small f))
+        ∙ power-ends f (unlike (logarithm f (suc m) e .negative) t) (cut n d g) (passes (cut n d g) (b * w) (x * v) (edge f) (2 ^ 72) (slack f) (mul-pos (down-pos d) (L-den-pos (suc m) e (zero-lt-suc m))) under r (slack-small f))
         ∙ ap (λ (s : Bool). ended (unlike s t)) (a .sign)

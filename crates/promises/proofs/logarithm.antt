@@ -7,4 +7,3 @@ pub mod Core
 pub mod Moved
 pub mod Near
 pub mod Size
-pub mod Meets

@@ -1,4 +1,4 @@
--- The logarithm core at its numbers: S(z) is i N - 256 l, in units of 2 ^ -72, within `slack`. Assumes nothing.
+-- The logarithm core at its numbers: S(z) is i N - 256 l, in units of 2 ^ -72, within `error`. Assumes nothing.
 use mathlib.Core.Path.{_≡_, refl}
 use Prim.Native.Nat.{ℕ, zero, _+_, _-_, _*_, _/_, _^_, _≤_, _<_}
 use native.Mathlib.Nat.{mul-le-mul-left, mul-le-mul-right, le-of-mul-le-mul-right, div-mul-le-self, lt-div-mul-add}
@@ -15,9 +15,9 @@ use Rattle.promises.proofs.logarithm.Argument.{Place, core-up, core-dow
 use Rattle.promises.proofs.logarithm.Table.{Row, row, found}
 
 -- how far the core may lie from S, in units of 2 ^ -72
-abbrev pub slack : Format → ℕ
-slack binary32 = 2 ^ 20
-slack binary64 = 48 * 256
+abbrev pub error : Format → ℕ
+error binary32 = 2 ^ 20
+error binary64 = 48 * 256
 
 -- ---- for any numbers: H = 2 ^ 61, q = M r / H, cut
 q-hi : (M x r q w H : ℕ) → zero < H → q * H ≤ M * r → x * r ≤ H * w → x * q ≤ M * w
@@ -99,13 +99,13 @@ counted' : (f : Format) → ((2 * 2 ^ 81) * less f * (2 ^ 93 + 1)) * 2 ^ 64 * (2
 counted' binary32 = lit≤ tt
 counted' binary64 = lit≤ tt
 
-slack-up : (f : Format) → 3 * 16 * 256 ≤ slack f
-slack-up binary32 = lit≤ tt
-slack-up binary64 = lit≤ tt
+error-up : (f : Format) → 3 * 16 * 256 ≤ error f
+error-up binary32 = lit≤ tt
+error-up binary64 = lit≤ tt
 
-slack-down : (f : Format) → (2 + 3 * short f) * 256 ≤ slack f
-slack-down binary32 = lit≤ tt
-slack-down binary64 = lit≤ tt
+error-down : (f : Format) → (2 + 3 * short f) * 256 ≤ error f
+error-down binary32 = lit≤ tt
+error-down binary64 = lit≤ tt
 
 -- n / d within s / (256 w) of c / (256 w) - l / w
 pub record Near (c l s n d : ℕ) : Type 0 where
@@ -119,7 +119,7 @@ down : (n d l c w t s : ℕ) → c * d ≤ (n * w + (l + 2 + t) * d) * 256 → (
 down n d l c w t s a b = omega (arith, mul-le-mul-right d b)
 
 near-row : (f : Format) (i x r p za : ℕ) → Row i x r p → za ≤ 2 ^ 62 → p ≤ za + 2 ^ 62 → za + 2 ^ 62 ≤ x
-    → Near (i * N) (lg f (2 ^ 64 - (za + 2 ^ 62) * r / 2 ^ 61) (2 ^ 64)) (slack f) (Sn za (za + 2 ^ 62 + 2 ^ 62)) (Sd (za + 2 ^ 62 + 2 ^ 62))
+    → Near (i * N) (lg f (2 ^ 64 - (za + 2 ^ 62) * r / 2 ^ 61) (2 ^ 64)) (error f) (Sn za (za + 2 ^ 62 + 2 ^ 62)) (Sd (za + 2 ^ 62 + 2 ^ 62))
 near-row f i x r p za R lz lo hi =
     let q = (za + 2 ^ 62) * r / 2 ^ 61 in
     let g = 2 ^ 64 - q in
@@ -127,16 +127,16 @@ near-row f i x r p za R lz lo hi =
     let at = place i x r p za R lz lo hi in
     record {
       above =
-          up (Sn za b) (Sd b) (lg f g (2 ^ 64)) (i * N) (2 ^ 64) (3 * 16 * 256) (slack f)
-          (core-up f za (2 ^ 62) g q (2 ^ 64) (i * N) x (2 ^ 64 - 8) (2 ^ 64 + 2) (2 ^ 62 - 1) 16 at counted) (slack-up f);
+          up (Sn za b) (Sd b) (lg f g (2 ^ 64)) (i * N) (2 ^ 64) (3 * 16 * 256) (error f)
+          (core-up f za (2 ^ 62) g q (2 ^ 64) (i * N) x (2 ^ 64 - 8) (2 ^ 64 + 2) (2 ^ 62 - 1) 16 at counted) (error-up f);
       below =
-          down (Sn za b) (Sd b) (lg f g (2 ^ 64)) (i * N) (2 ^ 64) (3 * short f) (slack f)
-          (core-down f za (2 ^ 62) g q (2 ^ 64) (i * N) x (2 ^ 64 - 8) (2 ^ 64 + 2) (2 ^ 62 - 1) 16 at (short f) counted (counted' f)) (slack-down f);
+          down (Sn za b) (Sd b) (lg f g (2 ^ 64)) (i * N) (2 ^ 64) (3 * short f) (error f)
+          (core-down f za (2 ^ 62) g q (2 ^ 64) (i * N) x (2 ^ 64 - 8) (2 ^ 64 + 2) (2 ^ 62 - 1) 16 at (short f) counted (counted' f)) (error-down f);
     }
 
 -- S at z = (M - 2 ^ 62) / (M + 2 ^ 62), for what the core does with M
 pub near-at : (f : Format) (M : ℕ) → 2 ^ 62 ≤ M → M ≤ 2 ^ 63
-    → Near (index M * N) (below f (gap (index M) M)) (slack f) (Sn (M - 2 ^ 62) (M + 2 ^ 62)) (Sd (M + 2 ^ 62))
+    → Near (index M * N) (below f (gap (index M) M)) (error f) (Sn (M - 2 ^ 62) (M + 2 ^ 62)) (Sd (M + 2 ^ 62))
 unfolding gap
 near-at f M l h =
     let i = index M in

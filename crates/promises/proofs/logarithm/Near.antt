@@ -1,4 +1,4 @@
--- The fixed-point logarithm of m * 2 ^ e has L's sign, and lies within `slack` units of 2 ^ -72 of L. Assumes nothing.
+-- The fixed-point logarithm of m * 2 ^ e has L's sign, and lies within `error` units of 2 ^ -72 of L. Assumes nothing.
 use mathlib.Core.Path.{_≡_, refl, sym, ap, _∙_, subst}
 use mathlib.Core.Bool.{Bool, true, false}
 use mathlib.Core.Logic.{_⊎_, inl, inr}
@@ -18,7 +18,7 @@ use Rattle.kernels.specs.Core as Core
 use Rattle.kernels.specs.Core.{gap, below, index, moved, Fixed, logarithm}
 use Rattle.promises.proofs.logarithm.Horner.{below-is, g-le-lg}
 use Rattle.promises.proofs.logarithm.Table.{found, entry-0}
-use Rattle.promises.proofs.logarithm.Core.{slack, Near}
+use Rattle.promises.proofs.logarithm.Core.{error, Near}
 use Rattle.promises.proofs.logarithm.Moved.{in-63, digits-in, core-near}
 
 -- ---- x below 1 is so far below that the series stays below ln 2
@@ -38,13 +38,13 @@ moved-room f m l =
     fit m k j t a b = omega (arith, mul-le-mul-right k a)
 
 -- what that leaves at the end of the table
-room : (f : Format) → slack f < 256 * (2 * 2 ^ (63 - prec f))
+room : (f : Format) → error f < 256 * (2 * 2 ^ (63 - prec f))
 room binary32 = lit< tt
 room binary64 = lit< tt
 
-slack-N : (f : Format) → slack f < N
-slack-N binary32 = lit< tt
-slack-N binary64 = lit< tt
+error-N : (f : Format) → error f < N
+error-N binary32 = lit< tt
+error-N binary64 = lit< tt
 
 end-gap : (M k : ℕ) → M + k ≤ 2 ^ 63 → 2 * k ≤ gap 256 M
 unfolding gap
@@ -59,13 +59,13 @@ end-gap M k l = rw entry-0 (rw (whole M) (omega arith))
 below-ge : (f : Format) (g : ℕ) → g ≤ below f g
 below-ge f g = rw (below-is f g) (g-le-lg f g (2 ^ 64))
 
-far : (f : Format) (M i : ℕ) → M + 2 ^ (63 - prec f) ≤ 2 ^ 63 → (i ≡ 256) ⊎ (i < 256) → slack f < (256 - i) * N + 256 * below f (gap i M)
+far : (f : Format) (M i : ℕ) → M + 2 ^ (63 - prec f) ≤ 2 ^ 63 → (i ≡ 256) ⊎ (i < 256) → error f < (256 - i) * N + 256 * below f (gap i M)
 far f M i l (inl e) =
     rw e (lt-of-lt-of-le (room f) (last (2 * 2 ^ (63 - prec f)) (gap 256 M) (below f (gap 256 M)) ((256 - 256) * N) (end-gap M (2 ^ (63 - prec f)) l) (below-ge f (gap 256 M))))
   where
     last : (a g b c : ℕ) → a ≤ g → g ≤ b → 256 * a ≤ c + 256 * b
     last a g b c p q = omega arith
-far f M i l (inr h) = lt-of-lt-of-le (slack-N f) (last i N (256 * below f (gap i M)) h)
+far f M i l (inr h) = lt-of-lt-of-le (error-N f) (last i N (256 * below f (gap i M)) h)
   where
     last : (i n c : ℕ) → i < 256 → n ≤ (256 - i) * n + c
     last i n c h = omega (arith, mul-le-mul-right n (one i h))
@@ -80,10 +80,10 @@ strict i l s n d w v z j a b = lt-of-mul-lt-mul-left 256 (omega (arith, mul-le-m
     whole i j = omega arith
 
 -- ---- the claim
-pub record Close (f : Format) (c : Fixed) (q : Signed) : Type 0 where
+pub record LogNear (f : Format) (c : Fixed) (q : Signed) : Type 0 where
   pub sign : c .negative ≡ q .negative
-  pub above : c .mag * q .size .den ≤ q .size .num * 2 ^ 72 + slack f * q .size .den
-  pub below : q .size .num * 2 ^ 72 ≤ (c .mag + slack f) * q .size .den
+  pub above : c .mag * q .size .den ≤ q .size .num * 2 ^ 72 + error f * q .size .den
+  pub below : q .size .num * 2 ^ 72 ≤ (c .mag + error f) * q .size .den
 
 -- arithmetic alone: w = 2 ^ 64, v = N, t is the core's magnitude and u is L's numerator
 cut-le : (A B d C : ℕ) → A * d ≤ C + B * d → (A - B) * d ≤ C
@@ -126,14 +126,14 @@ yes : (b : Bool) → T b → true ≡ b
 yes true t = refl
 yes false t = absurd t
 
-close : (f : Format) (k : ℤ) (i l n d : ℕ) → i ≤ 256 → Near (i * N) l (slack f) n d → 2 ^ 64 * n < N * d → Close f (Core.logAt k i l) (Exact.logAt k n d)
+close : (f : Format) (k : ℤ) (i l n d : ℕ) → i ≤ 256 → Near (i * N) l (error f) n d → 2 ^ 64 * n < N * d → LogNear f (Core.logAt k i l) (Exact.logAt k n d)
 close f (pos k) i l n d h r s =
     let p = k * N * d + 2 ^ 64 * n in
     let u = p - 0 + (0 - p) in
     record {
       sign = sym (leb·suc-zero p);
-      above = pos-above k i l n d (2 ^ 64) N (slack f) u (plain p) (r .below);
-      below = pos-below k i l n d (2 ^ 64) N (slack f) u (plain p) (r .above);
+      above = pos-above k i l n d (2 ^ 64) N (error f) u (plain p) (r .below);
+      below = pos-below k i l n d (2 ^ 64) N (error f) u (plain p) (r .above);
     }
 close f (negsuc k) i l n d h r s =
     let p = 2 ^ 64 * n in
@@ -143,8 +143,8 @@ close f (negsuc k) i l n d h r s =
     let g : 256 * suc k - i + i ≡ 256 * suc k = all k i h in
     record {
       sign = yes (ltb p q) (lt→ltb p q lt);
-      above = neg-above (suc k) i l n d (2 ^ 64) N (slack f) u (256 * suc k - i) (gone p q lt) g (r .above);
-      below = neg-below (suc k) i l n d (2 ^ 64) N (slack f) u (256 * suc k - i) (gone p q lt) g (r .below);
+      above = neg-above (suc k) i l n d (2 ^ 64) N (error f) u (256 * suc k - i) (gone p q lt) g (r .above);
+      below = neg-below (suc k) i l n d (2 ^ 64) N (error f) u (256 * suc k - i) (gone p q lt) g (r .below);
     }
   where
     more : (k v d : ℕ) → v * d ≤ suc k * v * d
@@ -156,7 +156,7 @@ close f (negsuc k) i l n d h r s =
 pub seriesDen-pos : (m : ℕ) → zero < m → zero < seriesDen m
 seriesDen-pos m z = mul-pos oddFact-pos (one-le-pow 47 (m + lead m) (omega arith))
 
-pub logarithm-near : (f : Format) (m : ℕ) (e : ℤ) → zero < m → m < 2 ^ prec f → Close f (logarithm f m e) (L m e)
+pub logarithm-near : (f : Format) (m : ℕ) (e : ℤ) → zero < m → m < 2 ^ prec f → LogNear f (logarithm f m e) (L m e)
 unfolding logarithm L
 logarithm-near f m e z l =
     let M = moved m in
@@ -166,7 +166,7 @@ logarithm-near f m e z l =
     let r = core-near f m z h in
     let F = found M (normalised-ge m z h) (le-of-lt (normalised-lt m h)) in
     close f (e +ℤ pos (size m - 1)) i g (seriesNum m) (seriesDen m) (F .last) r
-    (strict i g (slack f) (seriesNum m) (seriesDen m) (2 ^ 64) N (seriesDen-pos m z) (F .last) (r .above) (far f M i (moved-room f m l) (eq-or-lt-of-le (F .last))))
+    (strict i g (error f) (seriesNum m) (seriesDen m) (2 ^ 64) N (seriesDen-pos m z) (F .last) (r .above) (far f M i (moved-room f m l) (eq-or-lt-of-le (F .last))))
 
 -- ---- L's denominator is not 0
 den-is : (k : ℤ) (n d : ℕ) → Exact.logAt k n d .size .den ≡ 2 ^ 64 * d
