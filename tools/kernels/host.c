@@ -6,10 +6,7 @@
 #include "kernels.h"
 
 static float single(uint64_t b) {
-    uint32_t w = (uint32_t)b;
-    float x;
-    memcpy(&x, &w, 4);
-    return x;
+    return of_bits((uint32_t)b);
 }
 
 static double twice(uint64_t b) {
@@ -19,9 +16,7 @@ static double twice(uint64_t b) {
 }
 
 static void say_single(float x) {
-    uint32_t w;
-    memcpy(&w, &x, 4);
-    printf("%08" PRIx32 "\n", w);
+    printf("%08" PRIx32 "\n", to_bits(x));
 }
 
 static void say_double(double x) {

@@ -27,18 +27,6 @@ struct tally {
     uint32_t worst_at, bad_at;
 };
 
-static float of_bits(uint32_t b) {
-    float x;
-    memcpy(&x, &b, 4);
-    return x;
-}
-
-static uint32_t to_bits(float x) {
-    uint32_t b;
-    memcpy(&b, &x, 4);
-    return b;
-}
-
 static void note(struct tally *t, int rule, int ok, uint32_t b) {
     t->asked[rule]++;
     if (!ok) {
