@@ -1,0 +1,18 @@
+use Rattle.domain.specs.Floats.{clampDef}
+use Rattle.domain.proofs.floats.clamp.Statement.{statement}
+use Rattle.domain.proofs.floats.clamp.Tie as tie
+
+returns : tie.Need-returns
+unfolding clampDef
+returns c = cc
+
+returns-2 : tie.Need-returns-2
+unfolding clampDef
+returns-2 c = cc
+
+returns-3 : tie.Need-returns-3
+unfolding clampDef
+returns-3 c = cc
+
+pub clamp-spec : {M : Type 1} → statement M
+clamp-spec = tie.close (tie.spec returns returns-2 returns-3)

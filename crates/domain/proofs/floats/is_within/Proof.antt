@@ -1,0 +1,11 @@
+use Rattle.domain.proofs.floats.is_within.Statement.{statement}
+use Rattle.domain.proofs.floats.is_within.Tie as tie
+
+returns : tie.Need-returns
+returns c = cc
+
+returns-2 : tie.Need-returns-2
+returns-2 c = cc
+
+pub is-within-spec : {M : Type 1} → statement M
+is-within-spec = tie.close (tie.spec returns returns-2)

@@ -1,0 +1,3 @@
+-- Laws of the definitions.
+pub mod Answering
+pub mod Literals

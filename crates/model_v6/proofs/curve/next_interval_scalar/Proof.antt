@@ -1,0 +1,49 @@
+use mathlib.Core.Path.{_∙_}
+use Rattle.model_v6.proofs.Answering.{answers-refused, answers-accepted, answers-length}
+use borrow.Author.Needs.{needs}
+use Rattle.model_v6.proofs.curve.next_interval_scalar.Statement.{statement}
+use Rattle.model_v6.proofs.curve.next_interval_scalar.Tie as tie
+
+is-finite-requires : tie.Need-is-finite-requires
+is-finite-requires c κs = search needs
+
+is-finite-requires-2 : tie.Need-is-finite-requires-2
+is-finite-requires-2 c κs = search needs
+
+both-requires : tie.Need-both-requires
+both-requires c κs = search needs
+
+scalar-refusal-requires : tie.Need-scalar-refusal-requires
+scalar-refusal-requires c κs = search needs
+
+refused-requires : tie.Need-refused-requires
+refused-requires c κs = search needs
+
+returns : tie.Need-returns
+returns c =
+    rw (← c .before .before .before .before .before .is-finite .ensures, ← c .before .before .before .before .is-finite2 .ensures, ← c .before .before .before .both .ensures) (c .refused .ensures ∙ answers-refused _ _ _ _ (c .before .before .scalar-refusal .ensures) (c .before .if1 .taken))
+
+next-interval-requires : tie.Need-next-interval-requires
+next-interval-requires c κs = answers-length _ _ _ (c .before .scalar-refusal .ensures) (c .if1 .left)
+
+accepted-requires : tie.Need-accepted-requires
+accepted-requires c κs = search needs
+
+returns-2 : tie.Need-returns-2
+returns-2 c =
+    rw (← c .before .before .before .before .before .before .is-finite .ensures, ← c .before .before .before .before .before .is-finite2 .ensures, ← c .before .before .before .before .both .ensures)
+    (c .accepted .ensures ∙ (rw (c .before .next-interval .ensures) (answers-accepted _ _ _ _ (c .before .before .before .scalar-refusal .ensures) (c .before .before .if1 .left))))
+
+pub next-interval-scalar-spec : {M : Type 1} → statement M
+next-interval-scalar-spec =
+    tie.close
+    (tie.spec
+    is-finite-requires
+    is-finite-requires-2
+    both-requires
+    scalar-refusal-requires
+    refused-requires
+    returns
+    next-interval-requires
+    accepted-requires
+    returns-2)

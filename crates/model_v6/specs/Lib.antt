@@ -1,0 +1,4 @@
+pub mod Answers
+pub mod Filling
+pub mod Formulas
+pub mod State
