@@ -12,6 +12,9 @@ decimal n d = round binary32 false n d
 abbrev pub zero32 : Float
 zero32 = ofBits binary32 0
 
+abbrev pub half : Float
+half = ofBits binary32 0x3f00_0000
+
 abbrev pub one : Float
 one = ofBits binary32 0x3f80_0000
 
@@ -31,11 +34,11 @@ abbrev pub eleven : Float
 eleven = ofBits binary32 0x4130_0000
 
 -- each is the number that it is called
-pub wholes :
-    (zero32 ≡ decimal 0 1) × (one ≡ decimal 1 1) × (two ≡ decimal 2 1) × (three ≡ decimal 3 1) × (nine ≡ decimal 9 1) × (ten ≡ decimal 10 1) ×
+pub named :
+    (zero32 ≡ decimal 0 1) × (half ≡ decimal 1 2) × (one ≡ decimal 1 1) × (two ≡ decimal 2 1) × (three ≡ decimal 3 1) × (nine ≡ decimal 9 1) × (ten ≡ decimal 10 1) ×
     (eleven ≡ decimal 11 1)
 unfolding decimal ofBits
-wholes = (refl, refl, refl, refl, refl, refl, refl)
+named = (refl, refl, refl, refl, refl, refl, refl, refl)
 
 -- simulation.rs's S_MIN, S_MAX, D_MIN and D_MAX
 unfoldable pub S_MIN : Float

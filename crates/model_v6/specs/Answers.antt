@@ -1,6 +1,6 @@
 -- When a formula is refused, by document 01: 1 and 2 for the weights, then 13 for an argument. A refusal gives +0.0. Assumes nothing.
 use Prim.Native.Nat.{ℕ}
-use mathlib.Core.Bool.{Bool, true, false, _&&_, cond}
+use mathlib.Core.Bool.{Bool, _&&_, cond}
 use mathlib.Core.List.{List}
 use lib.Dec.{eqb, leb}
 use lib.Ieee.{Float, neg}
@@ -20,13 +20,9 @@ refused n = record { refusal = n; value = zero32 }
 abbrev pub accepted : Float → Scalar
 accepted x = record { refusal = 0; value = x }
 
-abbrev pub pickScalar : Bool → Scalar → Scalar → Scalar
-pickScalar true a b = a
-pickScalar false a b = b
-
 -- x, for weights w inside the box and good arguments
 unfoldable pub scalarDef : List Float → (good : Bool) → Float → Scalar
-scalarDef w good x = pickScalar (eqb (scalarRefusal w good) 0) (accepted x) (refused (scalarRefusal w good))
+scalarDef w good x = cond (eqb (scalarRefusal w good) 0) (accepted x) (refused (scalarRefusal w good))
 
 -- document 01's row 13: 'a day outside -100000..100000', stability, difficulty and retrievability outside their ranges, 'rating outside 1-4'
 abbrev pub dayGood : Float → Bool

@@ -1,4 +1,3 @@
 pub mod Answers
-pub mod Filling
 pub mod Formulas
 pub mod State

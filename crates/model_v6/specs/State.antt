@@ -1,6 +1,6 @@
 -- next_state_scalar of model_v6.rs. Assumes nothing.
 use Prim.Native.Nat.{ℕ}
-use mathlib.Core.Bool.{Bool, true, false, _&&_, cond}
+use mathlib.Core.Bool.{Bool, _&&_, cond}
 use mathlib.Core.List.{List}
 use lib.Dec.{eqb, ltb}
 use lib.Ieee.{Float, eq}
@@ -36,10 +36,6 @@ finiteState state = finite (state .stability) && finite (state .difficulty)
 abbrev pub nextGood : MemoryState → (delta-t : Float) → Bool
 nextGood state delta-t = finiteState state && dayGood delta-t
 
-abbrev pub pickNext : Bool → NextState → NextState → NextState
-pickNext true a b = a
-pickNext false a b = b
-
 abbrev pub refusedState : ℕ → NextState
 refusedState n = record { refusal = n; state = record { stability = zero32; difficulty = zero32 } }
 
@@ -48,4 +44,4 @@ acceptedState m = record { refusal = 0; state = m }
 
 -- m, for weights w inside the box and good arguments
 unfoldable pub nextDef : List Float → (good : Bool) → MemoryState → NextState
-nextDef w good m = pickNext (eqb (scalarRefusal w good) 0) (acceptedState m) (refusedState (scalarRefusal w good))
+nextDef w good m = cond (eqb (scalarRefusal w good) 0) (acceptedState m) (refusedState (scalarRefusal w good))

@@ -3,6 +3,5 @@
 pub mod answer;
 pub mod curve;
 pub mod difficulty;
-pub mod filling;
 pub mod stability;
 pub mod state;

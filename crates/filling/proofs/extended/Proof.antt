@@ -6,9 +6,9 @@ use borrow.Author.Needs.{needs}
 use lib.ListN.{length, replicate, take}
 use lib.Seq.{take-length}
 use Rattle.domain.specs.Limits.{zero32}
-use Rattle.model_v6.proofs.filling.Lists.{copied}
-use Rattle.model_v6.proofs.filling.extended.Statement.{statement}
-use Rattle.model_v6.proofs.filling.extended.Tie as tie
+use Rattle.filling.proofs.Lists.{copied}
+use Rattle.filling.proofs.extended.Statement.{statement}
+use Rattle.filling.proofs.extended.Tie as tie
 
 abbrev Inv-loop : tie.InvT-loop
 Inv-loop parameters n w₀ i₀ w i =

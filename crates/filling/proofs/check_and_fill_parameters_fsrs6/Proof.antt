@@ -3,10 +3,10 @@ use mathlib.Core.Path.{sym, _∙_}
 use borrow.Author.Tests.{not-true, not-false}
 use Rattle.domain.proofs.All.{both, not-left, not-right}
 use Rattle.domain.proofs.Accepted.{accepted-box, refused-box}
-use Rattle.model_v6.proofs.filling.Fills.{no-length, outside, inside}
+use Rattle.filling.proofs.Fills.{no-length, outside, inside}
 use borrow.Author.Needs.{needs}
-use Rattle.model_v6.proofs.filling.check_and_fill_parameters_fsrs6.Statement.{statement}
-use Rattle.model_v6.proofs.filling.check_and_fill_parameters_fsrs6.Tie as tie
+use Rattle.filling.proofs.check_and_fill_parameters_fsrs6.Statement.{statement}
+use Rattle.filling.proofs.check_and_fill_parameters_fsrs6.Tie as tie
 
 is-length-requires : tie.Need-is-length-requires
 is-length-requires c κs = search needs

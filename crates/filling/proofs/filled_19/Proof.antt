@@ -1,7 +1,7 @@
-use Rattle.model_v6.proofs.filling.Lists.{stores-19}
+use Rattle.filling.proofs.Lists.{stores-19}
 use borrow.Author.Needs.{needs}
-use Rattle.model_v6.proofs.filling.filled_19.Statement.{statement}
-use Rattle.model_v6.proofs.filling.filled_19.Tie as tie
+use Rattle.filling.proofs.filled_19.Statement.{statement}
+use Rattle.filling.proofs.filled_19.Tie as tie
 
 extended-requires : tie.Need-extended-requires
 extended-requires c κs = search needs

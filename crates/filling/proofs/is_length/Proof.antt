@@ -1,6 +1,6 @@
 use borrow.Author.Tests.{ne-eqb}
-use Rattle.model_v6.proofs.filling.is_length.Statement.{statement}
-use Rattle.model_v6.proofs.filling.is_length.Tie as tie
+use Rattle.filling.proofs.is_length.Statement.{statement}
+use Rattle.filling.proofs.is_length.Tie as tie
 
 returns : tie.Need-returns
 returns c = cc

@@ -3,11 +3,11 @@ use mathlib.Core.Path.{_≡_, _∙_}
 use mathlib.Core.Bool.{true}
 use native.Mathlib.Omega.{arith}
 use borrow.Author.Tests.{eq-eqb, ne-eqb, eqb-true}
-use Rattle.model_v6.proofs.filling.Lists.{all-copied}
-use Rattle.model_v6.specs.Filling.{lengthGood, fillDef}
+use Rattle.filling.proofs.Lists.{all-copied}
+use Rattle.filling.specs.Filling.{lengthGood, fillDef}
 use borrow.Author.Needs.{needs}
-use Rattle.model_v6.proofs.filling.fill.Statement.{statement}
-use Rattle.model_v6.proofs.filling.fill.Tie as tie
+use Rattle.filling.proofs.fill.Statement.{statement}
+use Rattle.filling.proofs.fill.Tie as tie
 
 full : (n : ℕ) → lengthGood n ≡ true → (n ≡ 0 → ⊥) → (n ≡ 17 → ⊥) → (n ≡ 19 → ⊥) → n ≡ 21
 full n h a b d = eqb-true _ _ (rw (ne-eqb _ 0 a, ne-eqb _ 17 b, ne-eqb _ 19 d) at h)

@@ -1,7 +1,7 @@
-use Rattle.model_v6.proofs.filling.Lists.{stores-17}
+use Rattle.filling.proofs.Lists.{stores-17}
 use borrow.Author.Needs.{needs}
-use Rattle.model_v6.proofs.filling.filled_17.Statement.{statement}
-use Rattle.model_v6.proofs.filling.filled_17.Tie as tie
+use Rattle.filling.proofs.filled_17.Statement.{statement}
+use Rattle.filling.proofs.filled_17.Tie as tie
 
 shared-slice-read-fma-f32 : tie.Need-shared-slice-read-fma-f32
 shared-slice-read-fma-f32 c = search needs

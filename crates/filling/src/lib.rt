@@ -1,11 +1,11 @@
-// A shorter weight set made whole, as FSRS-6 reads the sets of its forerunners.
+// A shorter weight set made whole, as FSRS-6 reads the sets of its forerunners: model_v6.rs, check_and_fill_parameters_fsrs6.
 ghost use mathlib.Core.Path.{_≡_};
 ghost use mathlib.Core.Bool.{true};
 ghost use mathlib.Core.List.{_++_};
 ghost use Prim.Native.Nat.{_-_, _≤_};
 ghost use lib.ListN.{length, replicate};
 ghost use Rattle.domain.specs.Limits.{zero32};
-ghost use Rattle.model_v6.specs.Filling.{lengthGood, fill17, fill19, fillDef, unfilled, fillAnswer};
+ghost use Rattle.filling.specs.Filling.{lengthGood, fill17, fill19, fillDef, unfilled, fillAnswer};
 use domain::weights::all_finite;
 use domain::weights::default_weights;
 use domain::weights::weights_refusal;

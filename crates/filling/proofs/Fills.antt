@@ -6,7 +6,7 @@ use mathlib.Core.List.{List}
 use lib.Ieee.{Float}
 use lib.ListN.{length}
 use Rattle.domain.specs.Weights.{boxed, allFinite}
-use Rattle.model_v6.specs.Filling.{lengthGood, fillDef, fillRefusal, unfilled, fillAnswer}
+use Rattle.filling.specs.Filling.{lengthGood, fillDef, fillRefusal, unfilled, fillAnswer}
 
 pub no-length : (p : List Float) → lengthGood (length p) ≡ false → unfilled 12 ≡ fillAnswer p
 unfolding fillAnswer fillRefusal

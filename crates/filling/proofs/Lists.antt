@@ -11,10 +11,9 @@ use lib.Seq.{append-snoc, length-take-le, set-append-left, set-at, take-suc}
 use Rattle.soft.specs.Fma.{fmaDef}
 use Rattle.kernels.specs.Kernels.{lnDef}
 use Rattle.domain.specs.Floats.{_+ᶠ_, _/ᶠ_}
-use Rattle.domain.specs.Limits.{zero32, one, two, three}
+use Rattle.domain.specs.Limits.{zero32, half, one, two, three}
 use Rattle.domain.specs.Weights.{_!_}
-use Rattle.model_v6.specs.Filling.{fill17, fill19, half}
-use Rattle.model_v6.specs.Formulas.{mul-add}
+use Rattle.filling.specs.Filling.{fill17, fill19}
 
 copied-one : (p : List Float) (m i : ℕ) (z : Float) → i < length p → set (take i p ++ replicate (suc m) z) i (p ! i) ≡ take (suc i) p ++ replicate m z
 copied-one p m i z h =
@@ -51,9 +50,9 @@ pub stores-17 :
     set
     (set
     (set
-    (set (p ++ replicate (21 - length p) zero32) 4 (mul-add (p ! 5) two (p ! 4)))
+    (set (p ++ replicate (21 - length p) zero32) 4 (fmaDef binary32 (p ! 5) two (p ! 4)))
     5
-    (lnDef binary32 (mul-add (p ! 5) three one) /ᶠ three))
+    (lnDef binary32 (fmaDef binary32 (p ! 5) three one) /ᶠ three))
     6
     (p ! 6 +ᶠ half))
     20
@@ -61,8 +60,8 @@ pub stores-17 :
     fill17 p
 unfolding fill17
 stores-17 p l =
-    let w4 = mul-add (p ! 5) two (p ! 4) in
-    let w5 = lnDef binary32 (mul-add (p ! 5) three one) /ᶠ three in
+    let w4 = fmaDef binary32 (p ! 5) two (p ! 4) in
+    let w5 = lnDef binary32 (fmaDef binary32 (p ! 5) three one) /ᶠ three in
     rw (
       l,
       set-append-left p (replicate 4 zero32) 4 w4 (omega arith),
