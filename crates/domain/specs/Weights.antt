@@ -1,13 +1,13 @@
 -- Document 01's box of the 21 weights, inference_v6.rs's default weights, and the refusals 1 and 2. Assumes nothing.
-use Prim.Native.Nat.{ℕ, zero, suc}
+use Prim.Native.Nat.{ℕ, zero, suc, _-_}
 use mathlib.Core.Bool.{Bool, true, _&&_, cond}
-use mathlib.Core.List.{List, [], _∷_}
+use mathlib.Core.List.{List, [], _∷_, _++_}
 use lib.Dec.{eqb}
 use lib.Ieee.{Float, nan, neg}
 use lib.Ieee.Scale.{finite}
-use lib.ListN.{getD, length}
+use lib.ListN.{getD, length, replicate, take}
 use Rattle.domain.specs.Floats.{within}
-use Rattle.domain.specs.Limits.{decimal, S_MIN, S_MAX}
+use Rattle.domain.specs.Limits.{decimal, zero32, S_MIN, S_MAX}
 
 -- w[k]; past the end a NaN, which no accepted call reads
 infixl 9 _!_
@@ -51,3 +51,7 @@ allFinite w = all (λ k x. finite x) (length w) w
 -- 1: not 21 weights; 2: one outside the box; 0: neither
 unfoldable pub weightsRefusal : List Float → ℕ
 weightsRefusal w = cond (eqb (length w) 21) (cond (boxed w) 0 2) 1
+
+-- the first 21 entries, and +0.0 where there are fewer
+unfoldable pub copyDef : List Float → List Float
+copyDef w = take 21 w ++ replicate (21 - length w) zero32

@@ -1,6 +1,8 @@
 // The box of the 21 weights, and the weights that a learner starts with (`inference_v6.rs`).
 ghost use mathlib.Core.Path.{_≡_};
-ghost use Rattle.domain.specs.Weights.{FSRS6_DEFAULT_PARAMETERS, allFinite, weightsRefusal};
+ghost use mathlib.Core.Bool.{cond};
+ghost use lib.Dec.{leb};
+ghost use Rattle.domain.specs.Weights.{FSRS6_DEFAULT_PARAMETERS, allFinite, copyDef, weightsRefusal};
 
 const LOW: [f32; 21] = [
     0.0001,
@@ -67,6 +69,27 @@ pub fn weights_refusal(w: &[f32]) -> u32
         }
     }
     0
+}
+
+// No more than 21.
+fn at_most_21(n: usize) -> usize
+    ensures { λ r. ⌜ r ≡ cond (leb n 21) n 21 ⌝ }
+{
+    if n <= 21 { n } else { 21 }
+}
+
+// The weights as a value, as the formulas take them: the first 21, and +0.0 where there are fewer.
+pub fn copy_weights(w: &[f32]) -> [f32; 21]
+    ensures { λ r. ⌜ r ≡ copyDef (now (w .entry)) ⌝ }
+{
+    let n = at_most_21(w.len());
+    let mut v = [0.0f32; 21];
+    let mut i = 0;
+    while i < n {
+        v[i] = w[i];
+        i += 1;
+    }
+    v
 }
 
 pub fn all_finite(w: &[f32]) -> bool

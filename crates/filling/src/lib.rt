@@ -1,12 +1,10 @@
 // A shorter weight set made whole, as FSRS-6 reads the sets of its forerunners: model_v6.rs, check_and_fill_parameters_fsrs6.
 ghost use mathlib.Core.Path.{_≡_};
 ghost use mathlib.Core.Bool.{true};
-ghost use mathlib.Core.List.{_++_};
-ghost use Prim.Native.Nat.{_-_, _≤_};
-ghost use lib.ListN.{length, replicate};
-ghost use Rattle.domain.specs.Limits.{zero32};
+ghost use lib.ListN.{length};
 ghost use Rattle.filling.specs.Filling.{lengthGood, fill17, fill19, fillDef, unfilled, fillAnswer};
 use domain::weights::all_finite;
+use domain::weights::copy_weights;
 use domain::weights::default_weights;
 use domain::weights::weights_refusal;
 use kernels::ln::ln_f32;
@@ -32,30 +30,17 @@ fn is_length(n: usize) -> bool
     }
 }
 
-// The given weights, and +0.0 after them.
-fn extended(parameters: &[f32]) -> [f32; 21]
-    requires { ⌜ length (now parameters) ≤ 21 ⌝ }
-    ensures { λ r. ⌜ r ≡ now (parameters .entry) ++ replicate (21 - length (now (parameters .entry))) zero32 ⌝ }
-{
-    let n = parameters.len();
-    let mut w = [0.0f32; 21];
-    let mut i = 0;
-    while i < n {
-        w[i] = parameters[i];
-        i += 1;
-    }
-    w
-}
-
 // Weight 4 comes from the old weight 5.
 fn filled_17(parameters: &[f32]) -> [f32; 21]
     requires { ⌜ length (now parameters) ≡ 17 ⌝ }
     ensures { λ r. ⌜ r ≡ fill17 (now (parameters .entry)) ⌝ }
 {
-    let w4 = fma_f32(parameters[5], 2.0, parameters[4]);
-    let w5 = ln_f32(fma_f32(parameters[5], 3.0, 1.0)) / 3.0;
+    let old_4 = parameters[4];
+    let old_5 = parameters[5];
+    let w5 = ln_f32(fma_f32(old_5, 3.0, 1.0)) / 3.0;
+    let w4 = fma_f32(old_5, 2.0, old_4);
     let w6 = parameters[6] + 0.5;
-    let mut w = extended(parameters);
+    let mut w = copy_weights(parameters);
     w[4] = w4;
     w[5] = w5;
     w[6] = w6;
@@ -67,7 +52,7 @@ fn filled_19(parameters: &[f32]) -> [f32; 21]
     requires { ⌜ length (now parameters) ≡ 19 ⌝ }
     ensures { λ r. ⌜ r ≡ fill19 (now (parameters .entry)) ⌝ }
 {
-    let mut w = extended(parameters);
+    let mut w = copy_weights(parameters);
     w[20] = FSRS5_DEFAULT_DECAY;
     w
 }
@@ -86,7 +71,7 @@ fn fill(parameters: &[f32]) -> [f32; 21]
     if n == 19 {
         return filled_19(parameters);
     }
-    extended(parameters)
+    copy_weights(parameters)
 }
 
 fn refused(n: u32) -> Filled

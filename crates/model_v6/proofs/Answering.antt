@@ -7,11 +7,12 @@ use lib.Dec.{T, eqb}
 use lib.Ieee.{Float}
 use lib.ListN.{length}
 use borrow.Author.Tests.{eq-eqb, ne-eqb, eqb-true}
-use Rattle.domain.specs.Weights.{weightsRefusal}
+use Rattle.domain.specs.Weights.{copyDef, weightsRefusal}
 use Rattle.domain.proofs.Accepted.{accepted-length}
+use Rattle.domain.proofs.Copy.{copy-whole}
 use Rattle.model_v6.specs.Answers.{scalarRefusal, scalarDef, refused, accepted}
 use Rattle.model_v6.specs.State.{refusedState, acceptedState, nextDef}
-use Rattle.model_v6.specs.declared.state.MemoryState.{MemoryState}
+use Rattle.formulas.specs.declared.state.MemoryState.{MemoryState}
 
 pub answers-refused : (w : List Float) (good : Bool) (x : Float) (n : ℕ) → n ≡ scalarRefusal w good → (n ≡ 0 → ⊥) → refused n ≡ scalarDef w good x
 unfolding scalarDef
@@ -37,3 +38,7 @@ next-refused w good m n e h = rw (← e, ne-eqb _ 0 h)
 pub next-accepted : (w : List Float) (good : Bool) (m : MemoryState) (n : ℕ) → n ≡ scalarRefusal w good → n ≡ 0 → acceptedState m ≡ nextDef w good m
 unfolding nextDef
 next-accepted w good m n e h = rw (← e, eq-eqb _ 0 h)
+
+-- so the copy is the weights themselves
+pub answers-copied : (w v : List Float) (good : Bool) (n : ℕ) → n ≡ scalarRefusal w good → n ≡ 0 → v ≡ copyDef w → v ≡ w
+answers-copied w v good n e h c = c ∙ copy-whole w (answers-length w good n e h)

@@ -1,3 +1,2 @@
 -- Laws of the definitions.
 pub mod Answering
-pub mod Literals

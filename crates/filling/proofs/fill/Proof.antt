@@ -1,9 +1,8 @@
 use Prim.Native.Nat.{ℕ}
 use mathlib.Core.Path.{_≡_, _∙_}
 use mathlib.Core.Bool.{true}
-use native.Mathlib.Omega.{arith}
 use borrow.Author.Tests.{eq-eqb, ne-eqb, eqb-true}
-use Rattle.filling.proofs.Lists.{all-copied}
+use Rattle.domain.proofs.Copy.{copy-whole}
 use Rattle.filling.specs.Filling.{lengthGood, fillDef}
 use borrow.Author.Needs.{needs}
 use Rattle.filling.proofs.fill.Statement.{statement}
@@ -34,16 +33,14 @@ unfolding fillDef
 returns-3 c =
     rw (ne-eqb _ 0 (c .before .before .before .if1 .left), ne-eqb _ 17 (c .before .before .if2 .left), eq-eqb _ 19 (c .before .if3 .taken)) (c .filled-19 .ensures)
 
-extended-requires : tie.Need-extended-requires
-extended-requires c κs =
-    let e = full _ (c .before .before .before .before .pre) (c .before .before .if1 .left) (c .before .if2 .left) (c .if3 .left) in
-    omega (arith, e)
+copy-weights-requires : tie.Need-copy-weights-requires
+copy-weights-requires c κs = search needs
 
 returns-4 : tie.Need-returns-4
 unfolding fillDef
 returns-4 c =
     rw (ne-eqb _ 0 (c .before .before .before .if1 .left), ne-eqb _ 17 (c .before .before .if2 .left), ne-eqb _ 19 (c .before .if3 .left))
-    (c .extended .ensures ∙ all-copied _ _ (full _ (c .before .before .before .before .before .pre) (c .before .before .before .if1 .left) (c .before .before .if2 .left) (c .before .if3 .left)))
+    (c .copy-weights .ensures ∙ copy-whole _ (full _ (c .before .before .before .before .before .pre) (c .before .before .before .if1 .left) (c .before .before .if2 .left) (c .before .if3 .left)))
 
 pub fill-spec : {M : Type 1} → statement M
 fill-spec =
@@ -55,5 +52,5 @@ fill-spec =
     returns-2
     filled-19-requires
     returns-3
-    extended-requires
+    copy-weights-requires
     returns-4)

@@ -3,14 +3,14 @@ use borrow.Author.Needs.{needs}
 use Rattle.filling.proofs.filled_19.Statement.{statement}
 use Rattle.filling.proofs.filled_19.Tie as tie
 
-extended-requires : tie.Need-extended-requires
-extended-requires c κs = search needs
+copy-weights-requires : tie.Need-copy-weights-requires
+copy-weights-requires c κs = search needs
 
 array-write-w : tie.Need-array-write-w
 array-write-w c = search needs
 
 returns : tie.Need-returns
-returns c = rw (c .extended .ensures) (stores-19 _ (c .before .before .pre))
+returns c = rw (c .copy-weights .ensures) (stores-19 _ (c .before .before .pre))
 
 pub filled-19-spec : {M : Type 1} → statement M
-filled-19-spec = tie.close (tie.spec extended-requires array-write-w returns)
+filled-19-spec = tie.close (tie.spec copy-weights-requires array-write-w returns)

@@ -1,5 +1,5 @@
 use mathlib.Core.Path.{_∙_}
-use Rattle.model_v6.proofs.Answering.{answers-refused, answers-accepted, answers-length}
+use Rattle.model_v6.proofs.Answering.{answers-refused, answers-accepted, answers-copied}
 use borrow.Author.Needs.{needs}
 use Rattle.model_v6.proofs.curve.next_interval_scalar.Statement.{statement}
 use Rattle.model_v6.proofs.curve.next_interval_scalar.Tie as tie
@@ -21,18 +21,25 @@ refused-requires c κs = search needs
 
 returns : tie.Need-returns
 returns c =
-    rw (← c .before .before .before .before .before .is-finite .ensures, ← c .before .before .before .before .is-finite2 .ensures, ← c .before .before .before .both .ensures) (c .refused .ensures ∙ answers-refused _ _ _ _ (c .before .before .scalar-refusal .ensures) (c .before .if1 .taken))
+    rw (← c .before .before .before .before .before .is-finite .ensures, ← c .before .before .before .before .is-finite2 .ensures, ← c .before .before .before .both .ensures)
+    (c .refused .ensures ∙ answers-refused _ _ _ _ (c .before .before .scalar-refusal .ensures) (c .before .if1 .taken))
+
+copy-weights-requires : tie.Need-copy-weights-requires
+copy-weights-requires c κs = search needs
 
 next-interval-requires : tie.Need-next-interval-requires
-next-interval-requires c κs = answers-length _ _ _ (c .before .scalar-refusal .ensures) (c .if1 .left)
+next-interval-requires c κs = search needs
 
 accepted-requires : tie.Need-accepted-requires
 accepted-requires c κs = search needs
 
 returns-2 : tie.Need-returns-2
 returns-2 c =
-    rw (← c .before .before .before .before .before .before .is-finite .ensures, ← c .before .before .before .before .before .is-finite2 .ensures, ← c .before .before .before .before .both .ensures)
-    (c .accepted .ensures ∙ (rw (c .before .next-interval .ensures) (answers-accepted _ _ _ _ (c .before .before .before .scalar-refusal .ensures) (c .before .before .if1 .left))))
+    let e = c .before .before .before .before .before .scalar-refusal .ensures in
+    let h = c .before .before .before .before .if1 .left in
+    rw (← c .before .before .before .before .before .before .before .before .is-finite .ensures, ← c .before .before .before .before .before .before .before .is-finite2 .ensures, ← c .before .before .before .before .before .before .both .ensures)
+    (c .accepted .ensures ∙
+    (rw (c .before .next-interval .ensures, answers-copied _ _ _ _ e h (c .before .before .before .copy-weights .ensures)) (answers-accepted _ _ _ _ e h)))
 
 pub next-interval-scalar-spec : {M : Type 1} → statement M
 next-interval-scalar-spec =
@@ -44,6 +51,7 @@ next-interval-scalar-spec =
     scalar-refusal-requires
     refused-requires
     returns
+    copy-weights-requires
     next-interval-requires
     accepted-requires
     returns-2)

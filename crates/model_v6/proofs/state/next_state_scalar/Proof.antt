@@ -1,4 +1,4 @@
-use Rattle.model_v6.proofs.Answering.{answers-length, next-refused, next-accepted}
+use Rattle.model_v6.proofs.Answering.{answers-copied, next-refused, next-accepted}
 use borrow.Author.Needs.{needs}
 use Rattle.model_v6.proofs.state.next_state_scalar.Statement.{statement}
 use Rattle.model_v6.proofs.state.next_state_scalar.Tie as tie
@@ -20,13 +20,18 @@ returns c =
     rw (← c .before .before .before .before .is-finite-state .ensures, ← c .before .before .before .is-day .ensures, ← c .before .before .both .ensures)
     (next-refused _ _ _ _ (c .before .scalar-refusal .ensures) (c .if1 .taken))
 
+copy-weights-requires : tie.Need-copy-weights-requires
+copy-weights-requires c κs = search needs
+
 next-state-requires : tie.Need-next-state-requires
-next-state-requires c κs = answers-length _ _ _ (c .before .scalar-refusal .ensures) (c .if1 .left)
+next-state-requires c κs = search needs
 
 returns-2 : tie.Need-returns-2
 returns-2 c =
-    rw (← c .before .before .before .before .before .is-finite-state .ensures, ← c .before .before .before .before .is-day .ensures, ← c .before .before .before .both .ensures, c .next-state .ensures)
-    (next-accepted _ _ _ _ (c .before .before .scalar-refusal .ensures) (c .before .if1 .left))
+    let e = c .before .before .before .before .scalar-refusal .ensures in
+    let h = c .before .before .before .if1 .left in
+    rw (← c .before .before .before .before .before .before .before .is-finite-state .ensures, ← c .before .before .before .before .before .before .is-day .ensures, ← c .before .before .before .before .before .both .ensures, c .next-state .ensures, answers-copied _ _ _ _ e h (c .before .before .copy-weights .ensures))
+    (next-accepted _ _ _ _ e h)
 
 pub next-state-scalar-spec : {M : Type 1} → statement M
 next-state-scalar-spec =
@@ -37,5 +42,6 @@ next-state-scalar-spec =
     both-requires
     scalar-refusal-requires
     returns
+    copy-weights-requires
     next-state-requires
     returns-2)

@@ -1,0 +1,15 @@
+use Rattle.formulas.proofs.Literals.{nine-tenths}
+use Rattle.formulas.specs.Formulas.{factorDef}
+use borrow.Author.Needs.{needs}
+use Rattle.formulas.proofs.curve.factor.Statement.{statement}
+use Rattle.formulas.proofs.curve.factor.Tie as tie
+
+pow-f32-requires : tie.Need-pow-f32-requires
+pow-f32-requires c κs = search needs
+
+returns : tie.Need-returns
+unfolding factorDef
+returns c = rw (nine-tenths, c .pow-f32 .ensures)
+
+pub factor-spec : {M : Type 1} → statement M
+factor-spec = tie.close (tie.spec pow-f32-requires returns)

@@ -1,0 +1,17 @@
+use Rattle.formulas.specs.Formulas.{daysDef}
+use borrow.Author.Needs.{needs}
+use Rattle.formulas.proofs.curve.whole_days.Statement.{statement}
+use Rattle.formulas.proofs.curve.whole_days.Tie as tie
+
+max-requires : tie.Need-max-requires
+max-requires c κs = search needs
+
+round-f32-requires : tie.Need-round-f32-requires
+round-f32-requires c κs = search needs
+
+returns : tie.Need-returns
+unfolding daysDef
+returns c = cc
+
+pub whole-days-spec : {M : Type 1} → statement M
+whole-days-spec = tie.close (tie.spec max-requires round-f32-requires returns)
