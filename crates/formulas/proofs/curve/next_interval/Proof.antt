@@ -24,7 +24,16 @@ clamp-interval-requires c κs = search needs
 
 returns : tie.Need-returns
 unfolding intervalDef
-returns c = rw (least-retention, greatest-retention) cc
+returns c =
+    rw (
+      least-retention,
+      greatest-retention,
+      c .clamp-interval .ensures,
+      c .before .pow-f32 .ensures,
+      c .before .before .factor .ensures,
+      c .before .before .before .before .clamp .ensures,
+      c .before .before .before .before .before .floor-stability .ensures,
+    )
 
 pub next-interval-spec : {M : Type 1} → statement M
 next-interval-spec =

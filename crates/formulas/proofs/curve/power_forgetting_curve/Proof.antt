@@ -23,7 +23,14 @@ pow-f32-requires c κs = search needs
 
 returns : tie.Need-returns
 unfolding curveDef
-returns c = cc
+returns c =
+    rw (
+      c .pow-f32 .ensures,
+      c .before .fma-f32 .ensures,
+      c .before .before .whole-days .ensures,
+      c .before .before .before .factor .ensures,
+      c .before .before .before .before .before .floor-stability .ensures,
+    )
 
 pub power-forgetting-curve-spec : {M : Type 1} → statement M
 power-forgetting-curve-spec =

@@ -11,7 +11,11 @@ round-f32-requires c κs = search needs
 
 returns : tie.Need-returns
 unfolding daysDef
-returns c = cc
+returns c =
+    rw (
+      c .round-f32 .ensures,
+      c .before .max .ensures,
+    )
 
 pub whole-days-spec : {M : Type 1} → statement M
 whole-days-spec = tie.close (tie.spec max-requires round-f32-requires returns)

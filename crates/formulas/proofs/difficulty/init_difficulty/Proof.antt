@@ -20,7 +20,12 @@ exp-f32-requires c κs = search needs
 
 returns : tie.Need-returns
 unfolding initDifficultyDef
-returns c = cc
+returns c =
+    rw (
+      c .exp-f32 .ensures,
+      c .before .nearest-u32-to-f32 .ensures,
+      c .before .before .less-one .ensures,
+    )
 
 pub init-difficulty-spec : {M : Type 1} → statement M
 init-difficulty-spec =

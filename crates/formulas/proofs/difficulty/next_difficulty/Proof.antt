@@ -20,7 +20,13 @@ clamp-difficulty-requires c κs = search needs
 
 returns : tie.Need-returns
 unfolding nextDifficultyDef
-returns c = cc
+returns c =
+    rw (
+      c .clamp-difficulty .ensures,
+      c .before .mean-reversion .ensures,
+      c .before .before .init-difficulty .ensures,
+      c .before .before .before .nearest-u32-to-f32 .ensures,
+    )
 
 pub next-difficulty-spec : {M : Type 1} → statement M
 next-difficulty-spec =

@@ -14,7 +14,9 @@ exp-f32-requires c κs = search needs
 
 returns : tie.Need-returns
 unfolding lapseFloor
-returns c = cc
+returns c =
+    rw
+    (c .exp-f32 .ensures)
 
 pub lapse-floor-spec : {M : Type 1} → statement M
 lapse-floor-spec =

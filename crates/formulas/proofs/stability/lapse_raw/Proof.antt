@@ -26,7 +26,12 @@ exp-f32-requires c κs = search needs
 
 returns : tie.Need-returns
 unfolding lapseRaw
-returns c = cc
+returns c =
+    rw (
+      c .exp-f32 .ensures,
+      c .before .before .pow-f322 .ensures,
+      c .before .before .before .before .pow-f32 .ensures,
+    )
 
 pub lapse-raw-spec : {M : Type 1} → statement M
 lapse-raw-spec =

@@ -17,7 +17,13 @@ clamp-stability-requires c κs = search needs
 
 returns : tie.Need-returns
 unfolding failureDef
-returns c = cc
+returns c =
+    rw (
+      c .clamp-stability .ensures,
+      c .before .min .ensures,
+      c .before .before .lapse-raw .ensures,
+      c .before .before .before .lapse-floor .ensures,
+    )
 
 pub stability-after-failure-spec : {M : Type 1} → statement M
 stability-after-failure-spec =

@@ -38,7 +38,15 @@ clamp-stability-requires c κs = search needs
 
 returns : tie.Need-returns
 unfolding successDef
-returns c = cc
+returns c =
+    rw (
+      c .clamp-stability .ensures,
+      c .before .exp-f322 .ensures,
+      c .before .before .before .pow-f32 .ensures,
+      c .before .before .before .before .before .exp-f32 .ensures,
+      c .before .before .before .before .before .before .before .choose2 .ensures,
+      c .before .before .before .before .before .before .before .before .before .choose .ensures,
+    )
 
 pub stability-after-success-spec : {M : Type 1} → statement M
 stability-after-success-spec =

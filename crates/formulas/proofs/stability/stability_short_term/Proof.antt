@@ -29,7 +29,14 @@ clamp-stability-requires c κs = search needs
 
 returns : tie.Need-returns
 unfolding shortTermDef
-returns c = cc
+returns c =
+    rw (
+      c .clamp-stability .ensures,
+      c .before .increase .ensures,
+      c .before .before .pow-f32 .ensures,
+      c .before .before .before .before .exp-f32 .ensures,
+      c .before .before .before .before .before .before .before .nearest-u32-to-f32 .ensures,
+    )
 
 pub stability-short-term-spec : {M : Type 1} → statement M
 stability-short-term-spec =

@@ -26,7 +26,16 @@ next-difficulty-requires c κs = search needs
 
 returns : tie.Need-returns
 unfolding nextStateDef
-returns c = cc
+returns c =
+    rw (
+      c .next-difficulty .ensures,
+      c .before .stability-after .ensures,
+      c .before .before .power-forgetting-curve .ensures,
+      c .before .before .before .clamp-difficulty .ensures,
+      c .before .before .before .before .clamp-stability .ensures,
+      c .before .before .before .before .before .whole-days .ensures,
+      c .before .before .before .before .before .before .clamp-rating .ensures,
+    )
 
 pub next-state-spec : {M : Type 1} → statement M
 next-state-spec =
