@@ -4,13 +4,10 @@
     tools/soft_vectors.py [SEED]
 
 How the list is made: every answer is computed here from its meaning, with whole numbers and exact
-fractions alone, and never with a float. A float is a pattern of bits, which is read by its fields.
-The nearest float to a fraction is found by comparing: the patterns of the floats from 0 up are in the
-order of their values, so a search by halves finds the last one that is not above the fraction, and of
-it and the next the nearer one is taken, or at a tie the one whose pattern is even. The pattern of the
-infinity counts there as the power of two that would come next, as IEEE 754 has it. Half-way cases of
-`round` are the whole part of |x| + 1/2. The arguments are chosen below: first cases by hand, then
-pseudo-random ones (random.Random(SEED), SEED 1 if none is given; only its getrandbits is used).
+fractions alone, and never with a float (tools/floats.py). A float is a pattern of bits, which is read
+by its fields, and an answer is an exact fraction, rounded once. Half-way cases of `round` are the
+whole part of |x| + 1/2. The arguments are chosen below: first cases by hand, then pseudo-random ones
+(random.Random(SEED), SEED 1 if none is given; only its getrandbits is used).
 
 A line has 104 bytes: a letter, six numbers of 16 hexadecimal digits, each after a space, and the
 line's end. A line that begins with '#' is a remark. Where nothing is said a number is 0. A float is
@@ -31,10 +28,10 @@ its pattern, and every NaN among the answers is 7ff8000000000000 or, of an f32, 
 
 Classes: 0 a NaN, 1 an infinity, 2 a zero, 3 a subnormal, 4 a normal number.
 """
-import os
-import random
-import sys
 from fractions import Fraction
+
+from floats import F32, F64, fma, half_away, power
+from vectors import Lines, below, between, either, seeded
 
 NAMES = {
     "F": "fma_f64", "f": "fma_f32", "R": "round_f64", "r": "round_f32", "n": "narrow", "P": "pack_f64",
@@ -45,132 +42,30 @@ NAMES = {
 WORD = 1 << 64
 
 
-def power(e):
-    return Fraction(1 << e) if e >= 0 else Fraction(1, 1 << -e)
-
-
-class Format:
-    """A binary format by the bits of its significand, the hidden one included, and of its exponent."""
-
-    def __init__(self, prec, width):
-        self.prec = prec
-        self.sign = 1 << (prec - 1 + width)
-        self.hidden = 1 << (prec - 1)
-        self.inf = ((1 << width) - 1) << (prec - 1)
-        self.bias = (1 << (width - 1)) - 1
-        self.low = 1 - self.bias - (prec - 1)  # the exponent of the smallest value
-        self.nan = self.inf + self.hidden // 2
-        self.one = self.bias << (prec - 1)
-        self.max = self.inf - 1
-        self.least = self.hidden  # the smallest normal number
-
-    def fields(self, b):
-        return b // self.sign, b % self.sign // self.hidden, b % self.hidden
-
-    def is_nan(self, b):
-        return b % self.sign > self.inf
-
-    def is_inf(self, b):
-        return b % self.sign == self.inf
-
-    def parts(self, b):
-        """The significand and the exponent of a pattern with no sign. The infinity's is read on."""
-        _, e, t = self.fields(b)
-        return (t, self.low) if e == 0 else (self.hidden + t, e - 1 + self.low)
-
-    def size(self, b):
-        """The exact value of a pattern, less its sign."""
-        m, e = self.parts(b % self.sign)
-        return m * power(e)
-
-    def nearest(self, negative, x):
-        """The pattern of the nearest float to the fraction x >= 0, with a sign."""
-        sign = self.sign if negative else 0
-        if x >= self.size(self.inf):
-            return sign + self.inf
-        below, above = 0, self.inf  # size(below) <= x < size(above)
-        while above - below > 1:
-            middle = (below + above) // 2
-            if self.size(middle) <= x:
-                below = middle
-            else:
-                above = middle
-        down, up = x - self.size(below), self.size(above) - x
-        if down < up or (down == up and below % 2 == 0):
-            return sign + below
-        return sign + above
-
-    def exactly(self, m, e):
-        """The pattern of m * 2^e, which is a float of this format."""
-        x = abs(m) * power(e)
-        b = self.nearest(m < 0, x)
-        assert self.size(b) == x and not self.is_inf(b), (m, e)
-        return b
-
-    def neg(self, b):
-        return b ^ self.sign
-
-
-F64 = Format(53, 11)
-F32 = Format(24, 8)
-
-
 # ---- what each operation means
-
-def fma(f, x, y, z):
-    if f.is_nan(x) or f.is_nan(y) or f.is_nan(z):
-        return f.nan
-    minus = (x >= f.sign) != (y >= f.sign)
-    product_sign = f.sign if minus else 0
-    if f.is_inf(x) or f.is_inf(y):
-        if f.size(x) == 0 or f.size(y) == 0:
-            return f.nan
-        if f.is_inf(z) and z != product_sign + f.inf:
-            return f.nan
-        return product_sign + f.inf
-    if f.is_inf(z):
-        return z
-    p = f.size(x) * f.size(y)
-    q = f.size(z)
-    total = (-p if minus else p) + (-q if z >= f.sign else q)
-    if total == 0:
-        both = minus and z >= f.sign
-        return f.sign if both else 0
-    return f.nearest(total < 0, abs(total))
-
-
-def half_away(f, x):
-    if f.is_nan(x):
-        return f.nan
-    if f.is_inf(x):
-        return x
-    up = f.size(x) + Fraction(1, 2)
-    return f.nearest(x >= f.sign, Fraction(up.numerator // up.denominator))
-
 
 def narrow(x):
     if F64.is_nan(x):
         return F32.nan
     if F64.is_inf(x):
         return F32.inf + (F32.sign if x >= F64.sign else 0)
-    return F32.nearest(x >= F64.sign, F64.size(x))
+    return F32.rounded(x >= F64.sign, F64.size(x))
 
 
 def pack(f, negative, q, sticky, e):
     m = 2 * q + sticky
     e = max(-5000, min(5000, e))  # nothing changes beyond: 64 bits are an infinity or far below all
-    return f.nearest(negative, m * power(e - 1))
+    return f.rounded(negative, m * power(e - 1))
 
 
 def decode(f, b):
-    s, e, t = f.fields(b)
     if f.is_nan(b):
         return 0, 0, 0, 0
     if f.is_inf(b):
-        return 1, s, 0, 0
-    kind = 4 if e else 3 if t else 2
-    m, exponent = f.parts(b % f.sign)
-    return kind, s, m, exponent % WORD
+        return 1, b // f.sign, 0, 0
+    s, m, e = f.of_bits(b)
+    kind = 4 if m >= f.hidden else 3 if m else 2
+    return kind, int(s), m, e % WORD
 
 
 def halves(n):
@@ -180,20 +75,9 @@ def halves(n):
 
 # ---- the list
 
-lines = []
-counts = {}
-
-
-def remark(text):
-    assert len(text) <= 101 and text.isascii()
-    lines.append(("# " + text).ljust(103))
-
-
-def line(letter, a, b, c, d, r, s):
-    counts[letter] = counts.get(letter, 0) + 1
-    text = letter + "".join(" %016x" % v for v in (a, b, c, d, r, s))
-    assert len(text) == 103
-    lines.append(text)
+lines = Lines(6, 16, NAMES)
+remark = lines.remark
+line = lines.add
 
 
 def add_fma(f, x, y, z):
@@ -218,22 +102,6 @@ def add_decode(f, x):
 
 
 # ---- pseudo-random arguments
-
-source = random.Random()
-
-
-def below(n):
-    """A number from 0 to n - 1, from 64 bits more than n has."""
-    return source.getrandbits(n.bit_length() + 64) % n
-
-
-def between(a, b):
-    return a + below(b - a + 1)
-
-
-def either(*choices):
-    return choices[below(len(choices))]
-
 
 def some_digits(bits):
     """A number of exactly so many bits: dense, or with few ones, or with few zeros."""
@@ -323,7 +191,7 @@ def fma_cancelling(f):
     add_fma(f, 1, f.one, f.neg(1))
     add_fma(f, f.least, f.one, f.neg(f.least - 1))
     odd = f.exactly((1 << p) - 1, -p)
-    near = f.nearest(False, f.size(odd) * f.size(odd))
+    near = f.rounded(False, f.size(odd) * f.size(odd))
     for z in (near - 1, near, near + 1):
         add_fma(f, odd, odd, f.neg(z))
         add_fma(f, odd, f.neg(odd), z)
@@ -433,7 +301,7 @@ def round_cases(f, n):
     whole = f.exactly(1, p - 1)  # from here on every float is a whole number
     values = [0, 1, f.least - 1, f.least, f.exactly(1, -2), half - 1, half, half + 1, f.one - 1, f.one, f.one + 1,
               f.exactly(3, -1) - 1, f.exactly(3, -1), f.exactly(3, -1) + 1, f.exactly(5, -1), f.exactly(5, -1) - 1, f.exactly(7, -1),
-              f.nearest(False, Fraction(1, 5)), f.exactly((1 << (p - 1)) - 1, -1), f.exactly((1 << (p - 1)) + 1, -1),
+              f.rounded(False, Fraction(1, 5)), f.exactly((1 << (p - 1)) - 1, -1), f.exactly((1 << (p - 1)) + 1, -1),
               f.exactly((1 << p) - 1, -1), f.exactly((1 << p) - 3, -1), whole // 2, whole - 2, whole - 1, whole, whole + 1, whole + 2,
               2 * (whole // 2) + f.hidden, f.exactly(1, p) - 1, f.exactly(1, p), f.exactly(1, p) + 1, f.exactly(1, 63), f.exactly(1, 64), f.max, f.inf, f.nan]
     for x in values:
@@ -559,9 +427,7 @@ def wide_cases(n):
 
 
 def main():
-    seed = int(sys.argv[1]) if len(sys.argv) > 1 else 1
-    source.seed(seed)
-    remark("Test vectors of soft and wide, seed %d: made by tools/soft_vectors.py, which says how" % seed)
+    remark("Test vectors of soft and wide, seed %d: made by tools/soft_vectors.py, which says how" % seeded())
     for f, name in ((F64, "fma_f64"), (F32, "fma_f32")):
         remark(name + ": zeros, infinities and NaNs in every place")
         fma_specials(f)
@@ -593,13 +459,7 @@ def main():
     decode_cases(F32, 24)
     remark("wide")
     wide_cases(48)
-    folder = os.path.join(os.path.dirname(os.path.abspath(__file__)), "..", "crates", "soft_vectors")
-    with open(os.path.join(folder, "stdin"), "w", newline="\n") as out:
-        out.write("".join(text + "\n" for text in lines))
-    with open(os.path.join(folder, "stdout"), "w", newline="\n") as out:
-        for letter, name in NAMES.items():
-            out.write("%s %d of %d\n" % (name, counts[letter], counts[letter]))
-        out.write("total %d of %d\n" % (sum(counts.values()), sum(counts.values())))
+    lines.write("soft_vectors")
 
 
 main()

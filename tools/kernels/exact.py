@@ -6,7 +6,7 @@
     tools/kernels/exact.py table                                prints the 256 entries, one to a line
 
 Everything here is whole numbers; no float is ever computed with. A float is a pattern of bits, read by its
-fields. Three parts:
+fields (tools/floats.py). Three parts:
 
 1. The definition, from crates/kernels/specs/{Core,Kernels}.antt and, for fma and round, crates/soft/specs.
    Every answer must have its bits (a NaN equals any NaN).
@@ -19,6 +19,7 @@ fields. Three parts:
 It prints what was checked, what was violated, and the worst error as a part of what is allowed. Request K4's
 tighter distances are printed for information and never count as violations. Status 1 if anything is wrong.
 """
+import os
 import random
 import subprocess
 import sys
@@ -26,49 +27,10 @@ from bisect import bisect_left
 from fractions import Fraction
 from math import factorial, lcm
 
+sys.path.insert(0, os.path.join(os.path.dirname(os.path.abspath(__file__)), ".."))
+from floats import F32, F64, NAN
+
 N = 0xB17217F7D1CF79AB
-NAN = "nan"
-
-
-class Format:
-    def __init__(self, name, width, prec, emax):
-        self.name, self.width, self.prec, self.emax = name, width, prec, emax
-        self.low = emax + prec - 2  # 2 ^ -low is the smallest positive value
-        self.hid = 1 << (prec - 1)
-        self.top = 1 << (width - 1)
-        self.ones = 2 * emax + 1
-        self.inf = self.ones * self.hid
-        self.one = emax * self.hid
-
-    def of_bits(self, b):
-        """nan, ('inf', negative) or (negative, m, e) for ±m * 2 ^ e"""
-        s, x, t = b >= self.top, b % self.top // self.hid, b % self.hid
-        if x == self.ones:
-            return NAN if t else ("inf", s)
-        return (s, t, -self.low) if x == 0 else (s, self.hid + t, x - 1 - self.low)
-
-    def to_bits(self, v):
-        """of what `nearest` gives: a NaN stays the word nan"""
-        if v == NAN:
-            return NAN
-        if v[0] == "inf":
-            return v[1] * self.top + self.inf
-        s, m, e = v
-        n = m << (e + self.low)  # in units of the smallest value
-        k = max(0, n.bit_length() - self.prec)
-        return s * self.top + k * self.hid + (n >> k)
-
-    def nearest(self, s, num, den):
-        """lib.Ieee's round: the float nearest to ±num / den, ties to even, an infinity from 2 ^ (emax + 1) on"""
-        n = num << self.low
-        k = max(0, (n // den).bit_length() - self.prec)
-        q, r = divmod(n, den << k)
-        q += 2 * r > den << k or (2 * r == den << k and q % 2 == 1)
-        return ("inf", s) if q << k >= 1 << (self.low + self.emax + 1) else (s, q << k, -self.low)
-
-
-SINGLE = Format("f32", 32, 24, 127)
-DOUBLE = Format("f64", 64, 53, 1023)
 
 
 def scaled(m, e, w):
@@ -91,8 +53,8 @@ def entry(i):
 
 
 TABLE = [entry(i) for i in range(256)] + [2**63]
-UPS = {f: [2 ** (71 - 8 * j) // factorial(j) for j in range(1, n + 1)] for f, n in ((SINGLE, 3), (DOUBLE, 5))}
-DOWNS = {f: [2**63 // j for j in range(1, n + 1)] for f, n in ((SINGLE, 5), (DOUBLE, 7))}
+UPS = {f: [2 ** (71 - 8 * j) // factorial(j) for j in range(1, n + 1)] for f, n in ((F32, 3), (F64, 5))}
+DOWNS = {f: [2**63 // j for j in range(1, n + 1)] for f, n in ((F32, 5), (F64, 7))}
 BIAS = 2**19 * N
 
 
@@ -129,9 +91,9 @@ def from_power(f, neg, mag):
         return (False, 0, 0) if neg else ("inf", False)
     j, s = divmod(BIAS - mag if neg else BIAS + mag, N)
     k, i = divmod(j, 256)
-    if k + f.emax < 2049:
+    if k + f.bias < 2049:
         return False, 0, 0
-    if k > 2048 + f.emax:
+    if k > 2048 + f.bias:
         return "inf", False
     return f.nearest(False, mantissa(f, i, s) << k, 1 << 2110)
 
@@ -241,8 +203,8 @@ def L(m, e):
 
 
 # ---- document 01's rules
-LIMITS = {SINGLE: (86, 89, 23), DOUBLE: (700, 710, 44)}  # near, far, and the distance 2 ^ -p E
-LOGS = {SINGLE: (23, 48), DOUBLE: (50, 48)}  # 2 ^ -p |L| + 2 ^ -q
+LIMITS = {F32: (86, 89, 23), F64: (700, 710, 44)}  # near, far, and the distance 2 ^ -p E
+LOGS = {F32: (23, 48), F64: (50, 48)}  # 2 ^ -p |L| + 2 ^ -q
 MILLION = 10**6
 
 
@@ -303,7 +265,7 @@ def judge_power(f, t, v, num, den, what):
         t.note(f"A <= -{far}: +0", finite(v) and v[:2] == (False, 0), None, what)
     else:
         t.note("in between: +0, a number or +infinity", v == ("inf", False) or (finite(v) and not v[0]), None, what)
-    if f is DOUBLE and abs(num) <= 32 * den:
+    if f is F64 and abs(num) <= 32 * den:
         t.note("K4: |A| <= 32: within 2^-50 E", *near(v, num, den, 50))
 
 
@@ -334,7 +296,7 @@ def judge_ln(f, t, v, what, x):
         t.note("ln 1 = +0", f.to_bits(v) == 0, None, what)
     p, q = LOGS[f]
     t.note(f"within 2^-{p} |L| + 2^-{q}", *near_log(v, num, den, p, q), what)
-    if f is DOUBLE:
+    if f is F64:
         t.note("K4: within 2^-52 |L| + 2^-60", *near_log(v, num, den, 52, 60))
 
 
@@ -363,11 +325,11 @@ def judge_nothing(f, t, v, what, *xs):
 class Source:
     def __init__(self, f, seed, n):
         self.f, self.n, self.rnd = f, n, random.Random(f"{seed} {f.name}")
-        h, i = f.hid, f.inf
+        h, i = f.hidden, f.inf
         subnormals = [1, 2, 3, h // 2, h - 2, h - 1]
         self.positives = subnormals + [h, h + 1, i - 2, i - 1] + [f.one + d for d in range(-4, 5)]
-        self.odd = [0, f.top, i, f.top + i, i + 1, i + h // 2, f.top + i + h // 2, f.top + i + h - 1]
-        self.edges = self.odd + self.positives + [f.top + b for b in self.positives]
+        self.odd = [0, f.sign, i, f.sign + i, i + 1, i + h // 2, f.sign + i + h // 2, f.sign + i + h - 1]
+        self.edges = self.odd + self.positives + [f.sign + b for b in self.positives]
 
     def below(self, n):
         return self.rnd.getrandbits(80) % n
@@ -378,7 +340,7 @@ class Source:
     def around(self, num, den, w):
         """the patterns up to w steps from the one nearest to num / den"""
         b = self.bits(False, abs(num), den)
-        return [(num < 0) * self.f.top + c for c in range(max(0, b - w), min(self.f.inf, b + w) + 1)]
+        return [(num < 0) * self.f.sign + c for c in range(max(0, b - w), min(self.f.inf, b + w) + 1)]
 
     def uniform(self, low, high):
         num = (low << 90) + self.rnd.getrandbits(90) * (high - low)
@@ -387,8 +349,8 @@ class Source:
     def scatter(self, low, high, s=None):
         """any digits, with an exponent from low to high"""
         s = self.rnd.getrandbits(1) if s is None else s
-        e = max(0, min(self.f.ones - 1, self.f.emax + low + self.below(high - low + 1)))
-        return s * self.f.top + e * self.f.hid + self.rnd.getrandbits(self.f.prec - 1)
+        e = max(0, min(self.f.ones - 1, self.f.bias + low + self.below(high - low + 1)))
+        return s * self.f.sign + e * self.f.hidden + self.rnd.getrandbits(self.f.prec - 1)
 
     def any(self):
         return self.rnd.getrandbits(self.f.width)
@@ -400,11 +362,11 @@ class Source:
             for s in (-1, 1):
                 xs += self.around(s * c, 1, 4)
                 xs += [self.uniform(s * c - 1, s * c + 1) for _ in range(8)]
-        far = f.emax + 40
+        far = f.bias + 40
         for k in range(-far, far + 1):  # where k changes, and beyond both ends
             xs += self.around(k * N, 2**64, 1)
         for _ in range(n // 4):  # where the table's entry changes
-            xs += self.around((self.below(512 * f.emax) - 256 * f.emax) * N, 2**72, 1)
+            xs += self.around((self.below(512 * f.bias) - 256 * f.bias) * N, 2**72, 1)
         close = LIMITS[f][0]
         xs += [self.uniform(-close, close) for _ in range(n)] + [self.uniform(-4, 4) for _ in range(n // 2)]
         xs += [self.scatter(-80, 7) for _ in range(n // 2)] + [self.any() for _ in range(n // 4)]
@@ -412,23 +374,23 @@ class Source:
 
     def logs(self):
         f, n = self.f, self.n
-        xs = list(self.edges) + [e * f.hid for e in range(f.ones + 1)]
+        xs = list(self.edges) + [e * f.hidden for e in range(f.ones + 1)]
         xs += [f.one + s * (1 << j) + d for j in range(f.prec - 2) for s in (-1, 1) for d in (-1, 0, 1)]
         for i in range(256):  # where the table's entry changes
-            for k in (0, -1, self.below(2 * f.emax - 1) - f.emax + 1):
+            for k in (0, -1, self.below(2 * f.bias - 1) - f.bias + 1):
                 xs += self.around(TABLE[i] << max(k, 0), 2**62 << max(-k, 0), 1)
         xs += [self.rnd.getrandbits(f.prec - 1) >> self.below(f.prec - 1) for _ in range(n // 8)]  # subnormals
-        xs += [self.scatter(-f.emax, f.emax, 0) for _ in range(n // 2)]
+        xs += [self.scatter(-f.bias, f.bias, 0) for _ in range(n // 2)]
         xs += [self.scatter(-1, 0, 0) for _ in range(n // 2)]
-        xs += [f.one + (self.any() >> self.below(f.width)) % f.hid for _ in range(n // 4)]
-        xs += [f.one - (self.any() >> self.below(f.width)) % f.hid for _ in range(n // 4)]
+        xs += [f.one + (self.any() >> self.below(f.width)) % f.hidden for _ in range(n // 4)]
+        xs += [f.one - (self.any() >> self.below(f.width)) % f.hidden for _ in range(n // 4)]
         xs += [self.any() for _ in range(n // 8)]
         return [(x,) for x in xs]
 
     def tall(self):
         """an x with |L| so large that 16 |L| passes every limit"""
-        e = 9 if self.f is SINGLE else 65
-        return self.scatter(e, self.f.emax, 0) if self.rnd.getrandbits(1) else self.scatter(-self.f.emax, -e - 1, 0)
+        e = 9 if self.f is F32 else 65
+        return self.scatter(e, self.f.bias, 0) if self.rnd.getrandbits(1) else self.scatter(-self.f.bias, -e - 1, 0)
 
     def reach(self, x, num, den, w):
         """(x, y) with y L(x) nearest to num / den, and w steps from it"""
@@ -438,7 +400,7 @@ class Source:
 
     def pows(self):
         f, n = self.f, self.n
-        ys = list(self.odd) + [1, f.top + 1, f.hid, f.top + f.hid]
+        ys = list(self.odd) + [1, f.sign + 1, f.hidden, f.sign + f.hidden]
         for c, d in ((16, 1), (1, 1), (1, 2), (2, 1), (3, 1), (15, 1), (1, 10), (1, 2**30), (17, 1)):
             ys += [b for s in (-1, 1) for b in self.around(s * c, d, 2 if c == 16 else 0)]
         xs = self.edges + [self.bits(False, *q) for q in ((1, 2), (2, 1), (3, 1), (1, 10**4), (36500, 1), (9, 10))]
@@ -447,17 +409,17 @@ class Source:
             for c in LIMITS[f][:2] + (32,):
                 pairs += self.reach(self.tall(), c, 1, 1) + self.reach(self.tall(), -c, 1, 1)
         for _ in range(n // 8):  # A where k changes
-            k = self.below(2 * f.emax) - f.emax
+            k = self.below(2 * f.bias) - f.bias
             pairs += self.reach(self.tall(), k * N, 2**64, 1)
         low, high = self.bits(False, 1, 10**4), self.bits(False, 36500, 1)
         pairs += [(low + self.below(high - low), self.uniform(-1, 1)) for _ in range(n)]  # as the scheduler calls it
-        pairs += [(self.scatter(-f.emax, f.emax, 0), self.uniform(-16, 16)) for _ in range(n)]
+        pairs += [(self.scatter(-f.bias, f.bias, 0), self.uniform(-16, 16)) for _ in range(n)]
         pairs += [(self.scatter(-6, 6, 0), self.uniform(-16, 16)) for _ in range(n // 2)]
-        pairs += [(self.scatter(-f.emax, f.emax, 0), self.scatter(-90, 3)) for _ in range(n // 4)]
+        pairs += [(self.scatter(-f.bias, f.bias, 0), self.scatter(-90, 3)) for _ in range(n // 4)]
         for _ in range(n // 4):  # x at and just above 1, y at and just below 0
-            x = f.one + (self.any() >> self.below(f.width)) % f.hid
+            x = f.one + (self.any() >> self.below(f.width)) % f.hidden
             pairs += [(x, self.scatter(-100, 3, 1)), (x, self.uniform(-16, 0)), (f.one, self.uniform(-16, 16))]
-            pairs += [(x, self.rnd.getrandbits(1) * f.top)]
+            pairs += [(x, self.rnd.getrandbits(1) * f.sign)]
         pairs += [(self.any(), self.any()) for _ in range(n // 8)]
         return pairs
 
@@ -471,13 +433,13 @@ class Source:
 
     def fmas(self):
         f, n = self.f, self.n
-        some = self.odd[:5] + [1, f.top + 1, f.hid - 1, f.hid, f.one, f.top + f.one, f.one + 1]
-        some += [f.inf - 1, f.top + f.inf - 1]
+        some = self.odd[:5] + [1, f.sign + 1, f.hidden - 1, f.hidden, f.one, f.sign + f.one, f.one + 1]
+        some += [f.inf - 1, f.sign + f.inf - 1]
         out = [(x, y, z) for x in some for y in some for z in some]
         for _ in range(n):
             x, y = self.scatter(-40, 40), self.scatter(-40, 40)
             p = fma_def(f, f.of_bits(x), f.of_bits(y), (False, 0, 0))
-            out += [(x, y, (f.to_bits(p) ^ f.top) + self.below(7) - 3)]  # the product, almost taken away
+            out += [(x, y, (f.to_bits(p) ^ f.sign) + self.below(7) - 3)]  # the product, almost taken away
             out += [(x, y, self.scatter(-90, 90)), (self.any(), self.any(), self.any())]
         return out
 
@@ -545,7 +507,7 @@ def main(words):
         print("\n".join(f"0x{t:016X}" for t in TABLE[:256]))
         return 0
     audit()
-    total = [check(f, kernel, words, seed, n) for kernel in KERNELS for f in (SINGLE, DOUBLE)]
+    total = [check(f, kernel, words, seed, n) for kernel in KERNELS for f in (F32, F64)]
     answers, differ, violated = (sum(column) for column in zip(*total))
     print(f"{answers} answers, {differ} differ from the definition, {violated} violations of document 01")
     return 0 if differ == violated == 0 else 1

@@ -1,16 +1,34 @@
 // Each operation on a line's numbers, compared with the answer there.
-use crate::line::Case;
-use crate::patterns::f32_of;
-use crate::patterns::f64_of;
-use crate::patterns::pattern_f32;
-use crate::patterns::pattern_f64;
-use crate::patterns::signed;
 use soft::decode::Class;
 use soft::decode::Parts;
+use vectors::patterns::f32_of;
+use vectors::patterns::f64_of;
+use vectors::patterns::pattern_bool;
+use vectors::patterns::pattern_f32;
+use vectors::patterns::pattern_f64;
+use vectors::patterns::signed;
 use wide::Wide;
 
-fn bit(b: bool) -> u64 {
-    if b { 1 } else { 0 }
+// The first four are an operation's arguments, and the last two its answer, unless a function below
+// says otherwise.
+pub struct Case {
+    pub a: u64,
+    pub b: u64,
+    pub c: u64,
+    pub d: u64,
+    pub r: u64,
+    pub s: u64,
+}
+
+pub fn case_of(words: &[u64; 6]) -> Case {
+    Case {
+        a: words[0],
+        b: words[1],
+        c: words[2],
+        d: words[3],
+        r: words[4],
+        s: words[5],
+    }
 }
 
 fn fma_f64(k: Case) -> bool {
@@ -64,7 +82,7 @@ fn same_parts(p: Parts, k: Case) -> bool {
     if class_number(class) != k.c {
         return false;
     }
-    if bit(p.negative) != k.d {
+    if pattern_bool(p.negative) != k.d {
         return false;
     }
     if p.significand != k.r {
@@ -114,10 +132,10 @@ fn wide_passes(row: usize, k: Case) -> bool {
         9 => same_wide(wide::product(k.a, k.b), k),
         10 => same_wide(wide::shl(first(k), k.c), k),
         11 => same_wide(wide::shr(first(k), k.c), k),
-        12 => bit(wide::lost(first(k), k.c)) == k.r,
+        12 => pattern_bool(wide::lost(first(k), k.c)) == k.r,
         13 => same_wide(wide::sum(first(k), second(k)), k),
         14 => same_wide(wide::difference(first(k), second(k)), k),
-        15 => bit(wide::less(first(k), second(k))) == k.r,
+        15 => pattern_bool(wide::less(first(k), second(k))) == k.r,
         16 => wide::digits64(k.a) == k.r,
         17 => wide::digits(first(k)) == k.r,
         _ => false,

@@ -1,17 +1,17 @@
--- `word` is safe and ends: the index stays within the line. Assumes nothing.
+-- `word` is safe and ends: what lies past the line is read as 0. Assumes nothing.
 use Prim.Native.Nat.{_≤_, _-_}
 use borrow.Author.Needs.{needs}
-use Rattle.soft_vectors.proofs.line.word.Statement.{statement}
-use Rattle.soft_vectors.proofs.line.word.Tie as tie
+use Rattle.vectors.proofs.line.word.Statement.{statement}
+use Rattle.vectors.proofs.line.word.Tie as tie
 
 abbrev Inv-loop : tie.InvT-loop
-Inv-loop line at value₀ flaw₀ i₀ value flaw i = (at ≤ 87) × (i ≤ 16)
+Inv-loop line at digits value₀ flaw₀ i₀ value flaw i = i ≤ digits
 
 abbrev μ-loop : tie.MeasureT-loop
-μ-loop line at value₀ flaw₀ i₀ value flaw i = 16 - i
+μ-loop line at digits value₀ flaw₀ i₀ value flaw i = digits - i
 
-element-copy-out-differs : tie.Need-element-copy-out-differs Inv-loop μ-loop
-element-copy-out-differs c = search needs
+byte-at-requires : tie.Need-byte-at-requires Inv-loop μ-loop
+byte-at-requires c κs = search needs
 
 differs-requires : tie.Need-differs-requires Inv-loop μ-loop
 differs-requires c κs = search needs
@@ -22,11 +22,11 @@ loop-holds c = search needs
 add-i : tie.Need-add-i Inv-loop μ-loop
 add-i c = search needs
 
-add-digit : tie.Need-add-digit Inv-loop μ-loop
-add-digit c = search needs
+wrapping-add-usize-requires : tie.Need-wrapping-add-usize-requires Inv-loop μ-loop
+wrapping-add-usize-requires c κs = search needs
 
-element-copy-out-digit : tie.Need-element-copy-out-digit Inv-loop μ-loop
-element-copy-out-digit c = search needs
+byte-at-requires-2 : tie.Need-byte-at-requires-2 Inv-loop μ-loop
+byte-at-requires-2 c κs = search needs
 
 digit-requires : tie.Need-digit-requires Inv-loop μ-loop
 digit-requires c κs = search needs
@@ -46,12 +46,12 @@ word-spec =
     (tie.spec
     Inv-loop
     μ-loop
-    element-copy-out-differs
+    byte-at-requires
     differs-requires
     loop-holds
     add-i
-    add-digit
-    element-copy-out-digit
+    wrapping-add-usize-requires
+    byte-at-requires-2
     digit-requires
     loop-less
     loop-again

@@ -1,4 +1,4 @@
-// Floats by their patterns, with one pattern for a NaN, as the vectors have them.
+// Numbers and truths by their patterns, as the vectors have them. Every NaN has one pattern.
 const NAN_F64: u64 = 0x7ff8_0000_0000_0000;
 
 const NAN_F32: u64 = 0x7fc0_0000;
@@ -12,7 +12,7 @@ pub fn f64_of(b: u64) -> f64 {
 
 // The lower half of b.
 pub fn f32_of(b: u64) -> f32 {
-    f32_from((b % 0x1_0000_0000) as u32)
+    f32_from(u32_of(b))
 }
 
 fn f32_from(b: u32) -> f32 {
@@ -33,11 +33,20 @@ pub fn pattern_f32(x: f32) -> u64 {
     if x != x {
         return NAN_F32;
     }
-    widened(f32::to_bits(x))
+    pattern_u32(f32::to_bits(x))
 }
 
-fn widened(b: u32) -> u64 {
-    b as u64
+pub fn pattern_u32(n: u32) -> u64 {
+    n as u64
+}
+
+pub fn pattern_bool(b: bool) -> u64 {
+    if b { 1 } else { 0 }
+}
+
+// The lower half of b.
+pub fn u32_of(b: u64) -> u32 {
+    (b % 0x1_0000_0000) as u32
 }
 
 // A two's complement.

@@ -1,10 +1,10 @@
 -- `signed` is safe: -1 - n fits where n is below 2 ^ 63. Assumes nothing.
 use Prim.Native.Nat.{_-_}
 use native.Mathlib.Omega.{arith}
-use Rattle.soft_vectors.proofs.Reading.{below-fits}
+use Rattle.vectors.proofs.Reading.{below-fits}
 use borrow.Author.Needs.{needs}
-use Rattle.soft_vectors.proofs.patterns.signed.Statement.{statement}
-use Rattle.soft_vectors.proofs.patterns.signed.Tie as tie
+use Rattle.vectors.proofs.patterns.signed.Statement.{statement}
+use Rattle.vectors.proofs.patterns.signed.Tie as tie
 
 cast-result : tie.Need-cast-result
 cast-result c = search needs

@@ -1,9 +1,9 @@
 -- `f32_from` is safe: what is not above the infinity's pattern, less its sign, is no NaN's. Assumes nothing.
 use lib.Ieee.{binary32}
-use Rattle.soft_vectors.proofs.Reading.{pattern-no-nan}
+use Rattle.vectors.proofs.Reading.{pattern-no-nan}
 use borrow.Author.Needs.{needs}
-use Rattle.soft_vectors.proofs.patterns.f32_from.Statement.{statement}
-use Rattle.soft_vectors.proofs.patterns.f32_from.Tie as tie
+use Rattle.vectors.proofs.patterns.f32_from.Statement.{statement}
+use Rattle.vectors.proofs.patterns.f32_from.Tie as tie
 
 returns : tie.Need-returns
 returns c = search needs

@@ -1,14 +1,15 @@
 -- `total` is safe and ends. Assumes nothing.
 use Prim.Native.Nat.{_≤_, _-_}
+use lib.ListN.{length}
 use borrow.Author.Needs.{needs}
-use Rattle.soft_vectors.proofs.total.Statement.{statement}
-use Rattle.soft_vectors.proofs.total.Tie as tie
+use Rattle.vectors.proofs.counts.total.Statement.{statement}
+use Rattle.vectors.proofs.counts.total.Tie as tie
 
 abbrev Inv-loop : tie.InvT-loop
-Inv-loop counts sum₀ row₀ sum row = row ≤ 19
+Inv-loop counts sum₀ row₀ sum row = row ≤ length counts
 
 abbrev μ-loop : tie.MeasureT-loop
-μ-loop counts sum₀ row₀ sum row = 19 - row
+μ-loop counts sum₀ row₀ sum row = length counts - row
 
 loop-holds : tie.Need-loop-holds Inv-loop μ-loop
 loop-holds c = search needs
@@ -16,8 +17,8 @@ loop-holds c = search needs
 mul-wrapping-add-u64 : tie.Need-mul-wrapping-add-u64 Inv-loop μ-loop
 mul-wrapping-add-u64 c = search needs
 
-element-copy-out-wrapping-add-u64 : tie.Need-element-copy-out-wrapping-add-u64 Inv-loop μ-loop
-element-copy-out-wrapping-add-u64 c = search needs
+shared-slice-read-wrapping-add-u64 : tie.Need-shared-slice-read-wrapping-add-u64 Inv-loop μ-loop
+shared-slice-read-wrapping-add-u64 c = search needs
 
 wrapping-add-u64-requires : tie.Need-wrapping-add-u64-requires Inv-loop μ-loop
 wrapping-add-u64-requires c κs = search needs
@@ -42,7 +43,7 @@ total-spec =
     μ-loop
     loop-holds
     mul-wrapping-add-u64
-    element-copy-out-wrapping-add-u64
+    shared-slice-read-wrapping-add-u64
     wrapping-add-u64-requires
     add-row
     loop-less

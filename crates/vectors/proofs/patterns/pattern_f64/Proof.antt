@@ -1,8 +1,8 @@
 -- `pattern_f64` is safe: what does not differ from itself is no NaN. Assumes nothing.
-use Rattle.soft_vectors.proofs.Reading.{same-no-nan}
+use Rattle.vectors.proofs.Reading.{same-no-nan}
 use borrow.Author.Needs.{needs}
-use Rattle.soft_vectors.proofs.patterns.pattern_f64.Statement.{statement}
-use Rattle.soft_vectors.proofs.patterns.pattern_f64.Tie as tie
+use Rattle.vectors.proofs.patterns.pattern_f64.Statement.{statement}
+use Rattle.vectors.proofs.patterns.pattern_f64.Tie as tie
 
 returns : tie.Need-returns
 returns c = search needs
