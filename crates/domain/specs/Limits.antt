@@ -1,8 +1,9 @@
 -- Numbers as singles: decimals, the whole numbers that the formulas write, and the ends of the domain. Assumes nothing.
-use Prim.Native.Nat.{ℕ}
+use Prim.Native.Nat.{ℕ, _-_}
 use mathlib.Core.Bool.{false}
 use mathlib.Core.Path.{_≡_, refl}
-use lib.Ieee.{Float, binary32, ofBits, round, size, units, odd, ofFields, neg}
+use lib.IntN.{pos}
+use lib.Ieee.{Float, binary32, ofBits, ofInt, round, size, units, odd, ofFields, neg}
 
 -- the single nearest to n / d, which is what a decimal stands for
 unfoldable pub decimal : (n d : ℕ) → Float
@@ -24,6 +25,9 @@ two = ofBits binary32 0x4000_0000
 abbrev pub three : Float
 three = ofBits binary32 0x4040_0000
 
+abbrev pub four : Float
+four = ofBits binary32 0x4080_0000
+
 abbrev pub nine : Float
 nine = ofBits binary32 0x4110_0000
 
@@ -35,10 +39,14 @@ eleven = ofBits binary32 0x4130_0000
 
 -- each is the number that it is called
 pub named :
-    (zero32 ≡ decimal 0 1) × (half ≡ decimal 1 2) × (one ≡ decimal 1 1) × (two ≡ decimal 2 1) × (three ≡ decimal 3 1) × (nine ≡ decimal 9 1) × (ten ≡ decimal 10 1) ×
+    (zero32 ≡ decimal 0 1) × (half ≡ decimal 1 2) × (one ≡ decimal 1 1) × (two ≡ decimal 2 1) × (three ≡ decimal 3 1) × (four ≡ decimal 4 1) × (nine ≡ decimal 9 1) × (ten ≡ decimal 10 1) ×
     (eleven ≡ decimal 11 1)
 unfolding decimal ofBits
-named = (refl, refl, refl, refl, refl, refl, refl, refl)
+named = (refl, refl, refl, refl, refl, refl, refl, refl, refl)
+
+-- rating.saturating_sub(1) as f32: a natural difference stops at 0
+abbrev pub ratingOffset : ℕ → Float
+ratingOffset rating = ofInt binary32 (pos (rating - 1))
 
 -- simulation.rs's S_MIN, S_MAX, D_MIN and D_MAX
 unfoldable pub S_MIN : Float

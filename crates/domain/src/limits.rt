@@ -1,8 +1,9 @@
 // The numbers of the domain: `simulation.rs`'s ends of stability and difficulty, and document 01's days.
 ghost use mathlib.Core.Path.{_≡_};
+ghost use Prim.Native.Nat.{_-_};
 ghost use lib.Ieee.{neg};
 ghost use Rattle.domain.specs.Floats.{clampDef, maxDef, within};
-ghost use Rattle.domain.specs.Limits.{zero32, S_MIN, S_MAX, D_MIN, D_MAX, DAY_MAX};
+ghost use Rattle.domain.specs.Limits.{zero32, S_MIN, S_MAX, D_MIN, D_MAX, DAY_MAX, ratingOffset};
 use crate::floats::clamp;
 use crate::floats::is_within;
 use crate::floats::max;
@@ -16,6 +17,20 @@ const D_MIN: f32 = 1.0;
 const D_MAX: f32 = 10.0;
 
 const DAY_MAX: f32 = 100000.0;
+
+// rating.saturating_sub(1)
+fn less_one(rating: u32) -> u32
+    ensures { λ r. ⌜ r ≡ rating - 1 ⌝ }
+{
+    if rating == 0 { 0 } else { rating - 1 }
+}
+
+// rating.saturating_sub(1) as f32
+pub fn rating_offset(rating: u32) -> f32
+    ensures { λ r. ⌜ r ≡ ratingOffset rating ⌝ }
+{
+    std::num::nearest_u32_to_f32(less_one(rating))
+}
 
 // s.max(S_MIN)
 pub fn floor_stability(s: f32) -> f32

@@ -1,5 +1,5 @@
 -- The scalar formulas of model_v6.rs, line for line: `w` is the 21 weights, and each product, sum and clamp stands where the Rust has it. Assumes nothing.
-use Prim.Native.Nat.{ℕ, _-_}
+use Prim.Native.Nat.{ℕ}
 use mathlib.Core.Bool.{cond}
 use mathlib.Core.List.{List}
 use lib.Dec.{eqb, leb}
@@ -9,7 +9,7 @@ use Rattle.soft.specs.Fma.{fmaDef}
 use Rattle.soft.specs.HalfAway.{roundDef}
 use Rattle.kernels.specs.Kernels.{expDef, powDef}
 use Rattle.domain.specs.Floats.{_+ᶠ_, _-ᶠ_, _*ᶠ_, _/ᶠ_, clampDef, maxDef, minDef}
-use Rattle.domain.specs.Limits.{decimal, zero32, one, three, nine, ten, eleven, S_MIN, S_MAX, D_MIN, D_MAX}
+use Rattle.domain.specs.Limits.{decimal, zero32, one, three, nine, ten, eleven, ratingOffset, S_MIN, S_MAX, D_MIN, D_MAX}
 use Rattle.domain.specs.Weights.{_!_}
 
 abbrev pub exp : Float → Float
@@ -78,9 +78,9 @@ shortTermDef w s rating =
     let sinc = exp (w ! 17 *ᶠ (as-f32 rating -ᶠ three +ᶠ w ! 18)) *ᶠ powf s (neg (w ! 19)) in
     clampDef (s *ᶠ increaseDef rating sinc) S_MIN S_MAX
 
--- init_difficulty_scalar: a natural difference stops at 0, as saturating_sub does
+-- init_difficulty_scalar
 unfoldable pub initDifficultyDef : (w : List Float) (rating : ℕ) → Float
-initDifficultyDef w rating = w ! 4 -ᶠ exp (w ! 5 *ᶠ as-f32 (rating - 1)) +ᶠ one
+initDifficultyDef w rating = w ! 4 -ᶠ exp (w ! 5 *ᶠ ratingOffset rating) +ᶠ one
 
 -- mean_reversion_scalar
 unfoldable pub meanReversionDef : (w : List Float) (init current : Float) → Float

@@ -1,21 +1,14 @@
 // The first difficulty, and the difficulty after a review.
 ghost use mathlib.Core.Path.{_≡_};
-ghost use Prim.Native.Nat.{_-_};
 ghost use Rattle.formulas.specs.Formulas.{initDifficultyDef, meanReversionDef, nextDifficultyDef};
 use domain::limits::clamp_difficulty;
+use domain::limits::rating_offset;
 use kernels::exp::exp_f32;
-
-// rating.saturating_sub(1)
-fn less_one(rating: u32) -> u32
-    ensures { λ r. ⌜ r ≡ rating - 1 ⌝ }
-{
-    if rating == 0 { 0 } else { rating - 1 }
-}
 
 pub fn init_difficulty(w: &[f32; 21], rating: u32) -> f32
     ensures { λ r. ⌜ r ≡ initDifficultyDef (now (w .entry)) rating ⌝ }
 {
-    w[4] - exp_f32(w[5] * std::num::nearest_u32_to_f32(less_one(rating))) + 1.0
+    w[4] - exp_f32(w[5] * rating_offset(rating)) + 1.0
 }
 
 pub fn mean_reversion(w: &[f32; 21], init: f32, current: f32) -> f32
