@@ -1,0 +1,5 @@
+pub mod Curve
+pub mod Params
+pub mod Single
+pub mod Stability
+pub mod Step
