@@ -57,7 +57,7 @@ fn rating_number(rating: f32) -> u32
 }
 
 // Only at row 0, and from a stability of 0.
-fn is_first(row: usize, s: f32) -> bool
+pub fn is_first(row: usize, s: f32) -> bool
     ensures { λ r. ⌜ r ≡ isFirst row s ⌝ }
 {
     if row == 0 { s == 0.0 } else { false }
