@@ -1,0 +1,23 @@
+use borrow.Author.Needs.{needs}
+use Rattle.analytic_v6.proofs.step.is_rating.Statement.{statement}
+use Rattle.analytic_v6.proofs.step.is_rating.Tie as tie
+
+either-requires : tie.Need-either-requires
+either-requires c κs = search needs
+
+either-requires-2 : tie.Need-either-requires-2
+either-requires-2 c κs = search needs
+
+either-requires-3 : tie.Need-either-requires-3
+either-requires-3 c κs = search needs
+
+either-requires-4 : tie.Need-either-requires-4
+either-requires-4 c κs = search needs
+
+returns : tie.Need-returns
+returns c = cc
+
+pub is-rating-spec : {M : Type 1} → statement M
+is-rating-spec =
+    tie.close
+    (tie.spec either-requires either-requires-2 either-requires-3 either-requires-4 returns)

@@ -1,0 +1,55 @@
+use Rattle.analytic_v6.proofs.Entry.{copied, reverse-refused, slots-refused, reverse-accepted, slots-accepted}
+use Rattle.analytic_v6.specs.Step.{noReverse}
+use borrow.Author.Needs.{needs}
+use Rattle.analytic_v6.proofs.step.training_step_backward.Statement.{statement}
+use Rattle.analytic_v6.proofs.step.training_step_backward.Tie as tie
+
+step-refusal-requires : tie.Need-step-refusal-requires
+step-refusal-requires c κs = search needs
+
+returns : tie.Need-returns
+unfolding noReverse
+returns c =
+    let e = c .before .step-refusal .ensures in
+    let h = c .if1 .taken in
+    let gw = c .before .before .before .before .args .gw .now in
+    (reverse-refused _ _ _ _ _ _ _ _ gw _ e h, slots-refused _ _ _ _ _ _ _ _ gw _ e h)
+
+copy-weights-requires : tie.Need-copy-weights-requires
+copy-weights-requires c κs = search needs
+
+runtime-params-requires : tie.Need-runtime-params-requires
+runtime-params-requires c κs = search needs
+
+step-forward-requires : tie.Need-step-forward-requires
+step-forward-requires c κs = search needs
+
+step-backward-requires : tie.Need-step-backward-requires
+step-backward-requires c κs = search needs
+
+same-length : tie.Need-same-length
+same-length c = search needs
+
+returns-2 : tie.Need-returns-2
+returns-2 c =
+    let e = c .before .before .before .before .before .before .before .before .before .before .step-refusal .ensures in
+    let h = c .before .before .before .before .before .before .before .before .before .if1 .left in
+    let v = copied _ _ _ _ _ _ _ _ e h (c .before .before .before .before .before .before .before .before .copy-weights .ensures) in
+    let g = c .before .before .step-backward .ensures in
+    let gw = c .before .before .before .before .before .before .before .before .before .before .before .before .before .args .gw .now in (
+      rw (g .0, c .before .before .before .before .before .step-forward .ensures, c .before .before .before .before .before .before .runtime-params .ensures, v) (reverse-accepted _ _ _ _ _ _ _ _ gw _ e h),
+      rw (g .1, c .before .before .before .before .before .step-forward .ensures, c .before .before .before .before .before .before .runtime-params .ensures, v) (slots-accepted _ _ _ _ _ _ _ _ gw _ e h),
+    )
+
+pub training-step-backward-spec : {M : Type 1} → statement M
+training-step-backward-spec =
+    tie.close
+    (tie.spec
+    step-refusal-requires
+    returns
+    copy-weights-requires
+    runtime-params-requires
+    step-forward-requires
+    step-backward-requires
+    same-length
+    returns-2)
