@@ -1,5 +1,6 @@
 pub mod Curve
 pub mod Params
+pub mod Reads
 pub mod Single
 pub mod Stability
 pub mod Step
