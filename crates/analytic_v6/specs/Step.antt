@@ -15,7 +15,7 @@ use Rattle.forward.specs.declared.stability.Branch.the-variants.{Padding}
 use Rattle.forward.specs.declared.stability.State.{State}
 use Rattle.forward.specs.declared.step.StepRecord.{StepRecord}
 use Rattle.forward.specs.declared.step.Stepped.{Stepped}
-use Rattle.backward.specs.Slots.{zero64}
+use Rattle.slots.specs.Slots.{zero64}
 use Rattle.backward.specs.Step.{stepGrad, stepMoved}
 use Rattle.backward.specs.declared.step.StateGrad.{StateGrad}
 use Rattle.analytic_v6.specs.declared.step.TrainingStep.{TrainingStep}

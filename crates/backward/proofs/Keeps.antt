@@ -17,15 +17,15 @@ use Rattle.forward.specs.declared.stability.Branch.{Branch}
 use Rattle.forward.specs.declared.stability.Branch.the-variants.{Padding, First, SameDay, Lapse, Success}
 use Rattle.forward.specs.declared.stability.State.{State}
 use Rattle.forward.specs.declared.step.StepRecord.{StepRecord}
-use Rattle.backward.specs.Curve.{curveSlots}
-use Rattle.backward.specs.Difficulty.{meanGrad, partsOf, difficultySlots, difficultyMoved, initSlots, initMoved}
+use Rattle.slots.specs.Curve.{curveSlots}
+use Rattle.slots.specs.Difficulty.{meanGrad, partsOf, difficultySlots, difficultyMoved, initSlots, initMoved}
 use Rattle.backward.specs.Moves.{slotsOf, mayMove}
-use Rattle.backward.specs.Slots.{zero64, bump, bumpIf}
-use Rattle.backward.specs.Stability.{shortSlots, shortMoved, floorSlots, lapseSlots, failureMoved, successSlots, successMoved}
+use Rattle.slots.specs.Slots.{zero64, bump, bumpIf}
+use Rattle.gradients.specs.Stability.{shortSlots, shortMoved, floorSlots, lapseSlots, failureMoved, successSlots, successMoved}
 use Rattle.backward.specs.Step.{carried, firstFlow, flowDef, preGrad, firstMoved, shortAll, lapseAll, successAll, flowMoved, stepMoved}
-use Rattle.backward.specs.declared.difficulty.DifficultyParts.{DifficultyParts}
-use Rattle.backward.specs.declared.stability.LapseParts.{LapseParts}
-use Rattle.backward.specs.declared.stability.SuccessParts.{SuccessParts}
+use Rattle.slots.specs.declared.difficulty.DifficultyParts.{DifficultyParts}
+use Rattle.gradients.specs.declared.stability.LapseParts.{LapseParts}
+use Rattle.gradients.specs.declared.stability.SuccessParts.{SuccessParts}
 
 or-left : (a b : Bool) → a || b ≡ false → a ≡ false
 or-left false b e = refl

@@ -1,6 +1,2 @@
-pub mod Curve
-pub mod Difficulty
 pub mod Moves
-pub mod Slots
-pub mod Stability
 pub mod Step

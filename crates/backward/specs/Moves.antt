@@ -8,7 +8,7 @@ use Rattle.forward.specs.Reads.{among, firstWeights, common, successWeights}
 use Rattle.forward.specs.declared.stability.Branch.{Branch}
 use Rattle.forward.specs.declared.stability.Branch.the-variants.{Padding, First, SameDay, Lapse, Success}
 use Rattle.forward.specs.declared.step.StepRecord.{StepRecord}
-use Rattle.backward.specs.Slots.{zero64}
+use Rattle.slots.specs.Slots.{zero64}
 
 -- 'padding: none'; 'first: the same'; '4-7, 20' and '17-19, if the raw multiplier counts', '11-14, or 17, 18 if floored', or those of the success
 unfoldable pub slotsOf : (branch : Branch) (rating : Float) → List ℕ

@@ -12,11 +12,11 @@ use Rattle.forward.specs.declared.params.RuntimeParams.{RuntimeParams}
 use Rattle.forward.specs.declared.stability.Branch.{Branch}
 use Rattle.forward.specs.declared.stability.Branch.the-variants.{Padding, First, SameDay, Lapse, Success}
 use Rattle.forward.specs.declared.step.StepRecord.{StepRecord}
-use Rattle.backward.specs.Curve.{curveBack, curveSlots}
-use Rattle.backward.specs.Difficulty.{difficultyBack, difficultyMoved, initMoved}
-use Rattle.backward.specs.Slots.{zero64, clampGrad}
-use Rattle.backward.specs.Stability.{shortBack, shortMoved, failureBack, failureMoved, successBack, successMoved}
-use Rattle.backward.specs.declared.stability.Grads.{Grads}
+use Rattle.slots.specs.Curve.{curveBack, curveSlots}
+use Rattle.slots.specs.Difficulty.{difficultyBack, difficultyMoved, initMoved}
+use Rattle.slots.specs.Slots.{zero64, clampGrad}
+use Rattle.gradients.specs.Stability.{shortBack, shortMoved, failureBack, failureMoved, successBack, successMoved}
+use Rattle.gradients.specs.declared.stability.Grads.{Grads}
 use Rattle.backward.specs.declared.step.StateGrad.{StateGrad}
 
 unfoldable pub carried : (g-s g-d g-r : Float) → Grads

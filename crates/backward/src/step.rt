@@ -1,20 +1,20 @@
 // One step's reverse, through the branch that its record names.
 ghost use mathlib.Core.Path.{_≡_};
 ghost use Rattle.backward.specs.Step.{carried, firstFlow, firstMoved, shortFlow, shortAll, lapseFlow, lapseAll, successFlow, successAll, flowDef, flowMoved, recordCurve, stepGrad, stepMoved};
-use crate::curve::curve_backward;
-use crate::difficulty::backward_difficulty;
-use crate::difficulty::backward_init;
-use crate::slots::difficulty_grad;
-use crate::slots::stability_grad;
-use crate::stability::Grads;
-use crate::stability::backward_failure;
-use crate::stability::backward_short;
-use crate::stability::backward_success;
 use domain::floats::max;
 use forward::curve::CurveCache;
 use forward::params::RuntimeParams;
 use forward::stability::Branch;
 use forward::step::StepRecord;
+use gradients::stability::Grads;
+use gradients::stability::backward_failure;
+use gradients::stability::backward_short;
+use gradients::stability::backward_success;
+use slots::curve::curve_backward;
+use slots::difficulty::backward_difficulty;
+use slots::difficulty::backward_init;
+use slots::slots::difficulty_grad;
+use slots::slots::stability_grad;
 
 // Gradients by a state's stability and difficulty.
 pub struct StateGrad {

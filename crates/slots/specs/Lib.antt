@@ -1,0 +1,3 @@
+pub mod Curve
+pub mod Difficulty
+pub mod Slots
