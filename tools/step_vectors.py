@@ -1,0 +1,1032 @@
+#!/usr/bin/env python3
+"""Writes crates/step_vectors/stdin, the test vectors of the training step and its reverse, and its stdout.
+
+    tools/step_vectors.py [SEED]
+
+How the list is made: every answer is computed here, with whole numbers and exact fractions alone, and
+never with a float. The formulas are the Rust's own, line by line under its names, from analytic_v6.rs;
+the box, the ranges, the refusals and what is read are document 01's. This is a second reading of both:
+nothing is taken from the definitions of the crates, but for what `max` gives of two zeros, which Rust
+leaves open (the second of them), and for an unread day, which stands as +0.0. Each sum, difference,
+product and quotient is an exact fraction, rounded once (tools/floats.py). exp, ln and pow are the
+kernels' definition over whole numbers (tools/kernels/exact.py); what it refuses is a NaN inside a
+formula. The arguments are chosen below: first cases by hand, then pseudo-random ones
+(random.Random(SEED), SEED 1 if none is given; only its getrandbits is used).
+
+A line has 580 bytes: a letter, 34 words of 16 hexadecimal digits, each after a space, and the line's
+end. A line that begins with '#' is a remark. Where nothing is said a word is 0. A float is its
+pattern, single or double, and every NaN among the answers is 7fc00000 or 7ff8000000000000. The row is
+a whole number.
+
+    w    sets the weights of the lines below        a count from 0 to 23, and 23 singles of which so many are lent
+    g    sets the slots that a B line starts from   a count from 0 to 23, and 23 doubles of which so many are lent
+    T    training_step
+    B    training_step_backward
+
+    words     T                                     B
+    0-4       stability difficulty day rating row   the same
+    5-7       -                                     the gradients by stability, difficulty, retrievability
+    8         the refusal, 0 where there is none    the same
+    9-10      the state after the step              the gradients by the state before it
+    11-12     the record: the state as given        11-33: all 23 slots after the call
+    13-14     the state as clamped
+    15-19     day, rating, retrievability, and the outputs before their clamp
+    20        0 padding, 1 first, 2 same-day, 3 lapse, 4 success
+    21-23     first: rating; same-day: raw value active; lapse: raw floor floored
+"""
+import os
+import sys
+from fractions import Fraction
+from types import SimpleNamespace
+
+import floats
+from floats import F32, F64, NAN
+from vectors import Lines, below, between, either, seeded
+
+sys.path.insert(0, os.path.join(os.path.dirname(os.path.abspath(__file__)), "kernels"))
+from exact import exp_def, ln_def, pow_def
+
+NAMES = {"T": "training_step", "B": "training_step_backward"}
+
+
+# ---- floats
+
+class Number:
+    """A float by its format and pattern, with Rust's operators. A whole number beside one is that value in its format."""
+
+    def __init__(self, f, b):
+        self.f, self.b = f, f.nan if f.is_nan(b) else b
+
+    def like(self, x):
+        x = x if isinstance(x, Number) else Number(self.f, self.f.exactly(x, 0))
+        assert x.f is self.f
+        return x
+
+    def of(self, operation, x, y):
+        return Number(self.f, operation(self.f, self.like(x).b, self.like(y).b))
+
+    def __add__(self, x):
+        return self.of(floats.add, self, x)
+
+    def __sub__(self, x):
+        return self.of(floats.sub, self, x)
+
+    def __rsub__(self, x):
+        return self.of(floats.sub, x, self)
+
+    def __mul__(self, x):
+        return self.of(floats.mul, self, x)
+
+    def __rmul__(self, x):
+        return self.of(floats.mul, x, self)
+
+    def __truediv__(self, x):
+        return self.of(floats.div, self, x)
+
+    def __neg__(self):
+        return Number(self.f, self.f.neg(self.b))
+
+    def __lt__(self, x):
+        return floats.less(self.f, self.b, self.like(x).b)
+
+    def __gt__(self, x):
+        return floats.less(self.f, self.like(x).b, self.b)
+
+    def __eq__(self, x):
+        b = self.like(x).b
+        return not self.f.is_nan(b) and not self.f.is_nan(self.b) and not self < x and not self > x
+
+    def __le__(self, x):
+        return self < x or self == x
+
+    def __ge__(self, x):
+        return self > x or self == x
+
+    def max(self, x):
+        """Where one is a NaN the other, and of two zeros the second."""
+        x = self.like(x)
+        return self if self.f.is_nan(x.b) or self > x else x
+
+    def kernel(self, definition, *more):
+        v = definition(self.f, *(self.f.of_bits(self.like(x).b) for x in (self, *more)))
+        return Number(self.f, self.f.nan if v == NAN else self.f.to_bits(v))
+
+    def exp(self):
+        return self.kernel(exp_def)
+
+    def ln(self):
+        return self.kernel(ln_def)
+
+    def powf(self, y):
+        return self.kernel(pow_def, y)
+
+    def is_finite(self):
+        return not self.f.is_nan(self.b) and not self.f.is_inf(self.b)
+
+
+def single(text):
+    """The single nearest to a decimal fraction."""
+    return Number(F32, F32.decimal(text))
+
+
+def double(text):
+    return Number(F64, F64.decimal(text))
+
+
+def wide(x):
+    """`x as f64`: the same value in doubles."""
+    assert x.f is F32
+    v = F32.of_bits(x.b)
+    if v == NAN:
+        return Number(F64, F64.nan)
+    if v[0] == "inf":
+        return Number(F64, v[1] * F64.sign + F64.inf)
+    return Number(F64, F64.rounded(v[0], F32.size(x.b)))
+
+
+def up(x):
+    """The next float above."""
+    if x.b == x.f.sign:
+        return Number(x.f, 1)
+    return Number(x.f, x.b - 1 if x.b > x.f.sign else x.b + 1)
+
+
+def down(x):
+    return -up(-x)
+
+
+def around(*ends):
+    """Each end with the floats beside it."""
+    return [x for end in ends for x in (down(end), end, up(end))]
+
+
+# ---- the numbers of document 01
+
+ZERO, ONE = single(0), single(1)
+S_MIN, S_MAX, D_MIN, D_MAX = single("0.0001"), single(36500), single(1), single(10)
+DAY_MAX = single(100000)
+DEFAULT = [single(text) for text in """
+    0.212 1.2931 2.3065 8.2956 6.4133 0.8334 3.0194 0.001 1.8722 0.1666 0.796
+    1.4835 0.0614 0.2629 1.6483 0.6014 1.8729 0.5425 0.0912 0.0658 0.1542""".split()]
+BOX = {}
+for low, high, places in (
+    ("0.0001", "36500", (0, 1, 2, 3)), ("0", "20", (4,)), ("0", "4", (5,)), ("0", "6", (6,)),
+    ("0", "1", (7, 9, 12, 13, 15, 19)), ("-5", "5", (8,)), ("0", "5", (10, 14)), ("0.001", "10", (11,)),
+    ("1", "10", (16,)), ("0", "3", (17, 18)), ("0.1", "1", (20,)),
+):
+    BOX.update((i, (single(low), single(high))) for i in places)
+
+
+# ---- analytic_v6.rs
+
+def clamp(x, low, high):
+    """A NaN passes."""
+    return low if x < low else high if x > high else x
+
+
+def clamp_grad(x, low, high):
+    return double(1) if x >= low and x <= high else double(0)
+
+
+def add(gw, idx, value):
+    gw[idx] += value
+
+
+def runtime_params(w):
+    """RuntimeParams::new"""
+    curve_decay = -w[20]
+    curve_factor = (single("0.9").ln() / curve_decay).exp() - 1
+    decay = wide(curve_decay)
+    c = double("0.9").ln()
+    exp_term = (c / decay).exp()
+    easy_d = init_difficulty(w, 4)
+    return SimpleNamespace(
+        w=w,
+        curve_decay=curve_decay,
+        curve_factor=curve_factor,
+        curve_dfactor_ddecay=exp_term * (-c / (decay * decay)),
+        exp_w8=w[8].exp(),
+        exp_w8_f64=wide(w[8]).exp(),
+        failure_floor_divisor=(w[17] * w[18]).exp(),
+        easy_d=easy_d,
+        easy_d_f64=wide(easy_d),
+        exp_3w5_f64=(3 * wide(w[5])).exp(),
+    )
+
+
+def curve_forward(p, t, s):
+    t = t.max(0)
+    decay = p.curve_decay
+    factor = p.curve_factor
+    base = t / s * factor + 1
+    retrievability = base.powf(decay)
+    return SimpleNamespace(t=t, s=s, decay=decay, factor=factor, base=base, retrievability=retrievability)
+
+
+def curve_backward(p, cache, g_r, gw):
+    if g_r == 0:
+        return double(0)
+    r = wide(cache.retrievability)
+    base = wide(cache.base)
+    decay = wide(cache.decay)
+    t = wide(cache.t)
+    s = wide(cache.s)
+    factor = wide(cache.factor)
+
+    db_ds = -t * factor / (s * s)
+    g_s = g_r * r * decay / base * db_ds
+
+    dfactor_ddecay = p.curve_dfactor_ddecay
+    db_ddecay = t / s * dfactor_ddecay
+    dr_ddecay = r * (base.ln() + decay / base * db_ddecay)
+    add(gw, 20, -g_r * dr_ddecay)
+
+    return g_s
+
+
+def init_difficulty(w, rating):
+    offset = single(max(rating - 1, 0))
+    return w[4] - (w[5] * offset).exp() + 1
+
+
+def step_forward(p, state, delta_t, rating, nth):
+    w = p.w
+    last_s = clamp(state.s, S_MIN, S_MAX)
+    last_d = clamp(state.d, D_MIN, D_MAX)
+
+    padding = rating == 0
+    cache = SimpleNamespace(
+        state_s=state.s, state_d=state.d, last_s=last_s, last_d=last_d, delta_t=delta_t, rating=rating,
+        retrievability=ZERO, failure_raw=ZERO, failure_floor=ZERO, failure_used_floor=False, short_raw=ZERO,
+        short_value=ZERO, short_raw_active=False, use_short=False, use_failure=False, init_selected=False,
+        padding=padding, pre_clamp_s=last_s, mean_pre_clamp_d=last_d, init_rating=1,
+    )
+    if padding:
+        return SimpleNamespace(s=last_s, d=last_d), cache
+
+    init_selected = nth == 0 and state.s == 0
+    init_rating = int(F32.size(clamp(rating, single(1), single(4)).b))
+    cache.init_selected, cache.init_rating = init_selected, init_rating
+    if init_selected:
+        new_s = w[init_rating - 1]
+        raw_d = init_difficulty(w, init_rating)
+        cache.pre_clamp_s, cache.mean_pre_clamp_d = new_s, raw_d
+        return SimpleNamespace(s=clamp(new_s, S_MIN, S_MAX), d=clamp(raw_d, D_MIN, D_MAX)), cache
+
+    curve = curve_forward(p, delta_t, last_s)
+    r = curve.retrievability
+    cache.retrievability = r
+
+    cache.use_short = delta_t == 0
+    cache.use_failure = rating == 1
+    if cache.use_short:
+        short_raw = (w[17] * (rating - 3 + w[18])).exp() * last_s.powf(-w[19])
+        cache.short_raw = short_raw
+        cache.short_raw_active = not (rating >= 2 and short_raw < 1)
+        cache.short_value = short_raw.max(1) if rating >= 2 else short_raw
+        new_s = last_s * cache.short_value
+    elif cache.use_failure:
+        failure_raw = w[11] * last_d.powf(-w[12]) * ((last_s + 1).powf(w[13]) - 1) * ((1 - r) * w[14]).exp()
+        failure_floor = last_s / p.failure_floor_divisor
+        cache.failure_raw, cache.failure_floor = failure_raw, failure_floor
+        cache.failure_used_floor = failure_floor < failure_raw
+        new_s = failure_floor if cache.failure_used_floor else failure_raw
+    else:
+        hard_penalty = w[15] if rating == 2 else ONE
+        easy_bonus = w[16] if rating == 4 else ONE
+        success_inc = (
+            p.exp_w8
+            * (11 - last_d)
+            * last_s.powf(-w[9])
+            * (((1 - r) * w[10]).exp() - 1)
+            * hard_penalty
+            * easy_bonus
+        )
+        new_s = last_s * (success_inc + 1)
+
+    delta_d = -w[6] * (rating - 3)
+    next_d = last_d + (10 - last_d) * delta_d / 9
+    mean_d = w[7] * (p.easy_d - next_d) + next_d
+    new_d = clamp(mean_d, D_MIN, D_MAX)
+
+    cache.pre_clamp_s, cache.mean_pre_clamp_d = new_s, mean_d
+    return SimpleNamespace(s=clamp(new_s, S_MIN, S_MAX), d=new_d), cache
+
+
+def backward_success(p, c, g, gw):
+    if g == 0:
+        return double(0), double(0), double(0)
+    w = p.w
+    s = wide(c.last_s)
+    d = wide(c.last_d)
+    r = wide(c.retrievability)
+    rating = c.rating
+    a = p.exp_w8_f64
+    b = 11 - d
+    c_s = s.powf(-wide(w[9]))
+    e = ((1 - r) * wide(w[10])).exp() - 1
+    exp_e = e + 1
+    hp = wide(w[15]) if rating == 2 else double(1)
+    eb = wide(w[16]) if rating == 4 else double(1)
+    inc = a * b * c_s * e * hp * eb
+    g_inc = g * s
+
+    g_s = g * (inc + 1)
+    g_s += g_inc * inc * (-wide(w[9]) / s)
+    g_d = -(g_inc * a * c_s * e * hp * eb)
+    g_r = g_inc * a * b * c_s * hp * eb * (-wide(w[10]) * exp_e)
+
+    add(gw, 8, g_inc * inc)
+    add(gw, 9, g_inc * inc * -s.ln())
+    add(gw, 10, g_inc * a * b * c_s * hp * eb * ((1 - r) * exp_e))
+    if rating == 2:
+        add(gw, 15, g_inc * a * b * c_s * e * eb)
+    if rating == 4:
+        add(gw, 16, g_inc * a * b * c_s * e * hp)
+    return g_s, g_d, g_r
+
+
+def backward_failure(p, c, g, gw):
+    if g == 0:
+        return double(0), double(0), double(0)
+    w = p.w
+    s = wide(c.last_s)
+    d = wide(c.last_d)
+    r = wide(c.retrievability)
+    if c.failure_used_floor:
+        floor = wide(c.failure_floor)
+        exp_floor = floor / s
+        add(gw, 17, g * floor * -wide(w[18]))
+        add(gw, 18, g * floor * -wide(w[17]))
+        return g * exp_floor, double(0), double(0)
+
+    raw = wide(c.failure_raw)
+    base = s + 1
+    p = base.powf(wide(w[13]))
+    last_d_pow = d.powf(-wide(w[12]))
+    er = ((1 - r) * wide(w[14])).exp()
+
+    add(gw, 11, g * raw / wide(w[11]))
+    add(gw, 12, g * raw * -d.ln())
+    add(gw, 13, g * wide(w[11]) * last_d_pow * er * p * base.ln())
+    add(gw, 14, g * raw * (1 - r))
+
+    g_s = g * wide(w[11]) * last_d_pow * er * wide(w[13]) * p / base
+    g_d = g * raw * (-wide(w[12]) / d)
+    g_r = g * raw * -wide(w[14])
+    return g_s, g_d, g_r
+
+
+def backward_short(p, c, g, gw):
+    if g == 0:
+        return double(0)
+    w = p.w
+    s = wide(c.last_s)
+    g_s = g * wide(c.short_value)
+    if c.short_raw_active:
+        g_raw = g * s
+        raw = wide(c.short_raw)
+        q = wide(c.rating - 3 + w[18])
+        add(gw, 17, g_raw * raw * q)
+        add(gw, 18, g_raw * raw * wide(w[17]))
+        add(gw, 19, g_raw * raw * -s.ln())
+        g_s += g_raw * raw * (-wide(w[19]) / s)
+    return g_s
+
+
+def backward_difficulty(p, c, g_out, gw):
+    if g_out == 0:
+        return double(0)
+    w = p.w
+    g_mean = g_out * clamp_grad(c.mean_pre_clamp_d, D_MIN, D_MAX)
+    if g_mean == 0:
+        return double(0)
+    rating_minus_3 = wide(c.rating - 3)
+    last_d = wide(c.last_d)
+    delta_d = -wide(w[6]) * rating_minus_3
+    next_d = last_d + (10 - last_d) * delta_d / 9
+    easy_d = p.easy_d_f64
+
+    add(gw, 7, g_mean * (easy_d - next_d))
+    add(gw, 4, g_mean * wide(w[7]))
+    add(gw, 5, g_mean * wide(w[7]) * -3 * p.exp_3w5_f64)
+
+    g_next = g_mean * (1 - wide(w[7]))
+    add(gw, 6, g_next * (10 - last_d) * -rating_minus_3 / 9)
+    return g_next * (1 - delta_d / 9)
+
+
+def backward_init(p, rating, g_s, g_d, gw):
+    w = p.w
+    add(gw, rating - 1, g_s)
+    raw_d = init_difficulty(w, rating)
+    g_raw_d = g_d * clamp_grad(raw_d, D_MIN, D_MAX)
+    if not g_raw_d == 0:
+        offset = double(rating - 1)
+        add(gw, 4, g_raw_d)
+        add(gw, 5, g_raw_d * -offset * (offset * wide(w[5])).exp())
+
+
+def step_backward(p, c, g_out_s, g_out_d, g_r_extra, gw):
+    g_pre_s = g_out_s * clamp_grad(c.pre_clamp_s, S_MIN, S_MAX)
+    g_pre_d = g_out_d
+    g_last_s = double(0)
+    g_last_d = double(0)
+    g_r = g_r_extra
+
+    if c.padding:
+        g_last_s += g_pre_s
+        g_last_d += g_pre_d
+    elif c.init_selected:
+        backward_init(p, c.init_rating, g_pre_s, g_pre_d, gw)
+    else:
+        if c.use_short:
+            g_last_s += backward_short(p, c, g_pre_s, gw)
+        elif c.use_failure:
+            gs, gd, gr = backward_failure(p, c, g_pre_s, gw)
+            g_last_s += gs
+            g_last_d += gd
+            g_r += gr
+        else:
+            gs, gd, gr = backward_success(p, c, g_pre_s, gw)
+            g_last_s += gs
+            g_last_d += gd
+            g_r += gr
+        g_last_d += backward_difficulty(p, c, g_pre_d, gw)
+
+    t = c.delta_t.max(0)
+    curve = SimpleNamespace(
+        t=t, s=c.last_s, decay=p.curve_decay, factor=p.curve_factor,
+        base=t / c.last_s * p.curve_factor + 1, retrievability=c.retrievability,
+    )
+    g_last_s += curve_backward(p, curve, g_r, gw)
+
+    g_state_s = g_last_s * clamp_grad(c.state_s, S_MIN, S_MAX)
+    g_state_d = g_last_d * clamp_grad(c.state_d, D_MIN, D_MAX)
+    return g_state_s, g_state_d
+
+
+# ---- document 01's refusals
+
+def is_unread(s, rating, row):
+    """The day goes unread in padding and in a first step."""
+    return rating == 0 or (row == 0 and s == 0)
+
+
+def weights_refusal(w):
+    if len(w) != 21:
+        return 1
+    return 0 if all(BOX[i][0] <= x and x <= BOX[i][1] for i, x in enumerate(w)) else 2
+
+
+def refusal(w, slots, s, d, day, rating, row):
+    """`slots` is how many are lent: 21 where none are asked for."""
+    if weights_refusal(w):
+        return weights_refusal(w)
+    if slots != 21:
+        return 5
+    if not s.is_finite() or not d.is_finite():
+        return 13
+    if not any(rating == n for n in range(5)):
+        return 6
+    if not is_unread(s, rating, row) and not (-DAY_MAX <= day and day <= DAY_MAX):
+        return 7
+    return 0
+
+
+# ---- the entries
+
+params = {}
+
+
+def stepped(w, s, d, day, rating, row):
+    """The run's parameters, and the state and the record after an accepted step."""
+    key = tuple(x.b for x in w)
+    if key not in params:
+        params[key] = runtime_params(w)
+    day = ZERO if is_unread(s, rating, row) else day
+    return params[key], *step_forward(params[key], SimpleNamespace(s=s, d=d), day, rating, row)
+
+
+def branch_of(c):
+    """The branch's number, and the numbers that it has."""
+    if c.padding:
+        return 0, 0, 0, 0
+    if c.init_selected:
+        return 1, c.init_rating, 0, 0
+    if c.use_short:
+        return 2, c.short_raw.b, c.short_value.b, int(c.short_raw_active)
+    if c.use_failure:
+        return 3, c.failure_raw.b, c.failure_floor.b, int(c.failure_used_floor)
+    return 4, 0, 0, 0
+
+
+def training_step(w, s, d, day, rating, row):
+    """The words of a T line from the refusal on."""
+    n = refusal(w, 21, s, d, day, rating, row)
+    if n:
+        return [n] + [0] * 15
+    _, after, c = stepped(w, s, d, day, rating, row)
+    numbers = (
+        after.s, after.d, c.state_s, c.state_d, c.last_s, c.last_d, c.delta_t, c.rating, c.retrievability,
+        c.pre_clamp_s, c.mean_pre_clamp_d,
+    )
+    return [0, *(x.b for x in numbers), *branch_of(c)]
+
+
+def training_step_backward(w, s, d, day, rating, row, g_s, g_d, g_r, count, slots):
+    """The words of a B line from the refusal on."""
+    n = refusal(w, count, s, d, day, rating, row)
+    gw = list(slots)
+    grads = [double(0), double(0)]
+    if n == 0:
+        p, _, c = stepped(w, s, d, day, rating, row)
+        grads = step_backward(p, c, g_s, g_d, g_r, gw)
+    return [n, *(x.b for x in grads), *(x.b for x in gw)]
+
+
+# ---- the list
+
+lines = Lines(34, 16, NAMES)
+remark = lines.remark
+lent = {"w": None, "g": None}
+
+
+def put_lent(letter, count, numbers):
+    """A w or g line, where it changes anything."""
+    words = [count] + [x.b for x in numbers]
+    if words != lent[letter]:
+        lent[letter] = words
+        lines.put(letter + "".join(" %016x" % v for v in words + [0] * (34 - len(words))))
+
+
+def take(w):
+    """The weights of the lines below."""
+    take.weights = list(w)
+    put_lent("w", len(w), w)
+
+
+def start(slots, count=21):
+    """The slots that the B lines below start from: what is not lent has to stay too."""
+    start.slots, start.count = list(slots), count
+    put_lent("g", count, slots)
+
+
+def forward(s, d, day, rating, row):
+    given = (s.b, d.b, day.b, rating.b, row, 0, 0, 0)
+    lines.add("T", *given, *training_step(take.weights, s, d, day, rating, row))
+
+
+def reverse(s, d, day, rating, row, g_s, g_d, g_r):
+    given = (s.b, d.b, day.b, rating.b, row, g_s.b, g_d.b, g_r.b)
+    answer = training_step_backward(
+        take.weights, s, d, day, rating, row, g_s, g_d, g_r, start.count, start.slots)
+    lines.add("B", *given, *answer)
+
+
+def both(step, *grads):
+    """The step, and its reverse with each triple of gradients."""
+    forward(*step)
+    for g in grads:
+        reverse(*step, *g)
+
+
+# ---- what the cases are made of
+
+NONE, INF = Number(F32, F32.nan), Number(F32, F32.inf)
+NONE64, INF64 = Number(F64, F64.nan), Number(F64, F64.inf)
+LEAST, MOST = Number(F32, 1), Number(F32, F32.max)
+LEAST64, MOST64 = Number(F64, 1), Number(F64, F64.max)
+BEYOND = single("100000.0078125")
+LAST_ROW = (1 << 64) - 1
+MINUSES = [-double(0)] * 23
+NUMBERED = [double(Fraction(i * i - 77, 8)) for i in range(23)]
+APART = [double(0), -double(0), LEAST64, -MOST64, INF64, -INF64, NONE64]
+MIXED = [APART[i % 7] for i in range(23)]
+LOWEST, HIGHEST = ([BOX[i][end] for i in range(21)] for end in (0, 1))
+NEGATIVE_ZEROS = [-ZERO if BOX[i][0] <= 0 and BOX[i][1] >= 0 else BOX[i][0] for i in range(21)]
+G = (double("0.7"), double("-1.3"), double("0.31"))
+PLUS = (double("0.9"), double("1.7"), double("2.1"))
+
+
+def with_some(w, **changed):
+    """w4="20" sets weight 4."""
+    w = list(w)
+    for name, text in changed.items():
+        w[int(name[1:])] = text if isinstance(text, Number) else single(text)
+    return w
+
+
+def at(s, d, day, rating, row=1):
+    return tuple(x if isinstance(x, Number) else single(x) for x in (s, d, day, rating)) + (row,)
+
+
+# a step of each branch and sub-branch under the default weights
+STEPS = {
+    "padding at row 0": at(0, 0, 0, 0, 0),
+    "padding later": at("12.5", "6.25", 3, 0),
+    "first, rating 1": at(0, 0, 0, 1, 0),
+    "first, rating 3": at(0, 0, 0, 3, 0),
+    "first, rating 4": at(0, 0, 0, 4, 0),
+    "same-day, raw": at("0.5", "5.5", 0, 3),
+    "same-day, floored": at("1000", "5.5", 0, 2),
+    "same-day, rating 1": at("12.5", "4.5", 0, 1),
+    "lapse, raw": at("12.5", "6.25", 10, 1),
+    "lapse, floored": at("0.25", "2.5", 3000, 1),
+    "success, hard": at("12.5", "6.25", 10, 2),
+    "success, plain": at("12.5", "6.25", 10, 3),
+    "success, easy": at("12.5", "2.25", 30, 4),
+}
+
+
+# ---- the cases
+
+def names_hold():
+    """Each of STEPS goes the way that its name says."""
+    for name, step in STEPS.items():
+        tag, _, _, flag = branch_of(stepped(DEFAULT, *step)[2])
+        assert name.startswith(("padding", "first", "same-day", "lapse", "success")[tag]), name
+        assert ("floored" in name) == ((tag, flag) in ((2, 0), (3, 1))), name
+
+
+def branch_cases():
+    remark("padding: at row 0 and later, either zero, its day unread; then a state that is clamped")
+    for step in (
+        at(0, 0, 0, 0, 0), at(0, 0, NONE, -ZERO, 0), at("12.5", "6.25", INF, 0, 1), at("12.5", "6.25", 5, -ZERO, 7),
+        at(0, 0, BEYOND, 0, 1), at(-ZERO, -ZERO, -ZERO, 0, 1), at(-5, 20, -INF, 0, LAST_ROW), at(40000, -3, 1, 0, 0),
+    ):
+        both(step, G)
+    remark("first: ratings 1 to 4 at row 0 with a stability of either zero; the day is unread, the difficulty is not used")
+    for rating in range(1, 5):
+        both(at(0, 0, 0, rating, 0), G)
+        both(at(-ZERO, "5.5", either(NONE, INF, BEYOND, -BEYOND), rating, 0), PLUS)
+    for d in (-ZERO, 20, MOST):
+        both(at(0, d, -INF, 2, 0), G)
+    remark("no first step: row 0 with another stability, a later row with stability 0")
+    for step in (
+        at(LEAST, 0, 0, 3, 0), at(-LEAST, 5, 1, 3, 0), at("12.5", "6.25", 10, 3, 0), at("12.5", "6.25", 0, 1, 0),
+        at(0, 0, 0, 3, 1), at(0, 0, 5, 1, 1), at(-ZERO, 5, 5, 4, LAST_ROW), at(0, 5, 0, 1, 2),
+    ):
+        both(step, G)
+    remark("same-day: ratings 1 to 4 with the raw multiplier above 1, below it and floored; either zero")
+    for rating in range(1, 5):
+        for s in (S_MIN, "0.5", 3, S_MAX):
+            both(at(s, "5.5", either(ZERO, -ZERO), rating), G)
+    remark("day -0.0 is same-day, one below or next to 0 is not, and none is rounded")
+    for day in (-ZERO, LEAST, -LEAST, "-0.25", "0.25", "0.5", "-1", "1.5", DAY_MAX, -DAY_MAX):
+        both(at("2.5", "6.25", day, 3), G)
+        forward(*at("2.5", "6.25", day, 1))
+    remark("lapse and success: raw and floored, hard, plain and easy")
+    for name, step in STEPS.items():
+        if name.startswith(("lapse", "success")):
+            both(step, G)
+            both(step[:2] + (single(200),) + step[3:], PLUS)
+
+
+def raw_one_cases():
+    remark("same-day: a raw multiplier of exactly 1 counts as raw; one next below is floored but for rating 1")
+    take(with_some(DEFAULT, w17=0, w19=0))
+    for rating in range(1, 5):
+        both(at("12.5", "4.5", 0, rating), G)
+    both(at(S_MIN, 1, -ZERO, 3), G)
+    both(at(S_MAX, 10, 0, 2), G)
+    take(with_some(DEFAULT, w17=0, w19="0.00000003"))
+    for rating in (1, 2, 4):
+        for s in (2, S_MIN):
+            both(at(s, "4.5", 0, rating), G)
+    take(with_some(DEFAULT, w17=-ZERO, w18=-ZERO, w19=-ZERO))
+    both(at(5, "4.5", 0, 3), G)
+
+
+def raw_and_floor(w, step):
+    c = stepped(w, *step)[2]
+    return c.failure_raw, c.failure_floor
+
+
+def equal_lapse(w, step):
+    """Weight 11 at which raw and floor are one single: both grow or stay as their patterns do."""
+    low, high = BOX[11][0].b, BOX[11][1].b
+    while low < high:
+        middle = (low + high) // 2
+        raw, floor = raw_and_floor(with_some(w, w11=Number(F32, middle)), step)
+        low, high = (middle + 1, high) if raw < floor else (low, middle)
+    w = with_some(w, w11=Number(F32, low))
+    raw, floor = raw_and_floor(w, step)
+    return w if raw == floor else None
+
+
+def lapse_cases():
+    remark("lapse: floor and raw equal, which takes raw, and weight 11 one step to either side")
+    found = 0
+    while found < 2:
+        step = at(some_single(ONE, single(50)), some_single(D_MIN, D_MAX), some_single(ONE, single(90)), 1)
+        w = equal_lapse(with_some(DEFAULT, w17=some_single(ZERO, ONE)), step)
+        if w:
+            for x in around(w[11]):
+                take(with_some(w, w11=x))
+                both(step, G)
+            found += 1
+    take(with_some(DEFAULT, w11=1, w12=0, w13=1, w14=0, w17=0))
+    for s in (1, 3):
+        assert raw_and_floor(take.weights, at(s, 5, 5, 1))[0] == single(s)
+        both(at(s, 5, 5, 1), G)
+    remark("lapse: weight 13 zero gives a raw of 0, below the range; day -1 gives a retrievability of 1")
+    take(with_some(DEFAULT, w13=0))
+    both(at(5, 5, 1, 1), G, PLUS)
+    take(DEFAULT)
+    both(at("2.5", 5, -1, 1), PLUS)
+
+
+def output_clamp_cases():
+    remark("the stability's output clamp: at each end, next beyond it and far beyond")
+    take(with_some(DEFAULT, w17="0.00000012", w18=0, w19=0))
+    for s in (S_MAX, down(S_MAX), down(down(S_MAX))):
+        both(at(s, 5, 0, 4), G)
+    for s in (S_MIN, up(S_MIN), up(up(S_MIN))):
+        both(at(s, 5, 0, 1), G)
+    take(DEFAULT)
+    for step in (at(S_MAX, 5, 100, 3), at(S_MAX, 5, -5, 3), at(S_MIN, 5, -5, 3), at(S_MIN, 5, 1, 1), at(36000, 1, 90000, 4)):
+        both(step, G, (INF64, G[1], double(0)))
+    take(with_some(DEFAULT, w0=S_MIN, w1=S_MAX, w2=up(S_MIN), w3=down(S_MAX)))
+    for rating in range(1, 5):
+        both(at(0, 0, 0, rating, 0), G)
+    remark("the difficulty's output clamp in a first step: at each end, next beyond it and far beyond")
+    for w4 in (0, 1, 10, 20, down(D_MIN), up(D_MIN), down(D_MAX), up(D_MAX)):
+        take(with_some(DEFAULT, w4=w4))
+        both(at(0, 0, 0, 1, 0), G)
+    for rating in (2, 4):
+        both(at(0, 0, 0, rating, 0), (G[0], INF64, G[2]), (G[0], -MOST64, G[2]))
+    take(with_some(DEFAULT, w5=4))
+    both(at(0, 0, 0, 4, 0), G, (G[0], NONE64, G[2]))
+    remark("the difficulty's output clamp in a review: at each end, next beyond it and far beyond")
+    take(with_some(DEFAULT, w7=0, w6="0.0000001"))
+    for d in (D_MIN, up(D_MIN), D_MAX):
+        for rating in (1, 3, 4):
+            both(at(5, d, 5, rating), G)
+    take(with_some(DEFAULT, w4=20, w5=0, w7="0.000001"))
+    both(at(5, D_MAX, 5, 3), G, (double(0), INF64, double(0)))
+    take(with_some(DEFAULT, w6=6))
+    for rating in range(1, 5):
+        both(at(5, 5, 5, rating), G, (G[0], -INF64, double(0)))
+        reverse(*at(5, 5, 0, rating), *PLUS)
+
+
+def state_cases():
+    remark("the state's clamps: stabilities and difficulties at, beside and beyond the ends, each with a gradient through")
+    take(DEFAULT)
+    far = [-ZERO, LEAST, -LEAST, -single(3), MOST, -MOST]
+    for i, s in enumerate(around(S_MIN, S_MAX) + far):
+        both(at(s, "5.5", i % 3, 1 + i % 4), G)
+    for i, d in enumerate(around(D_MIN, D_MAX) + far):
+        both(at("5.5", d, i % 3, 1 + i % 4), G)
+    for s, d in zip(around(S_MIN, S_MAX), around(D_MAX, D_MIN)):
+        reverse(*at(s, d, 2, 0), *G)
+    remark("both beyond: gradients that a clamp stops, the infinite ones as a NaN")
+    for step in (at(-1, 11, 2, 3), at(-1, 11, 0, 3), at(40000, 0, 2, 1), at(40000, 0, 2, 0)):
+        both(step, (INF64, -INF64, double(0)), (-G[0], -G[1], G[2]))
+
+
+def gradient_cases():
+    """Each early return is taken and passed, and each gradient goes alone."""
+    o, n = double(0), -double(0)
+    triples = [
+        (o, o, o), (n, n, n), (G[0], o, o), (o, G[1], n), (n, o, -G[2]), (-G[0], n, G[2]), (NONE64, o, o), (o, NONE64, o),
+        (o, o, NONE64), (INF64, o, n), (n, n, INF64), (LEAST64, -LEAST64, LEAST64), (MOST64, MOST64, -MOST64),
+    ]
+    take(DEFAULT)
+    for name, step in STEPS.items():
+        if name != "padding at row 0":
+            remark("gradients, from slots of -0.0: " + name)
+            for g in triples:
+                reverse(*step, *g)
+
+
+def cancelled_cases():
+    remark("a gradient by the retrievability that the branch's own takes away: the curve is left out, and one step beside")
+    take(DEFAULT)
+    for name, step in STEPS.items():
+        if name in ("lapse, raw", "success, hard", "success, plain", "success, easy"):
+            p, _, c = stepped(DEFAULT, *step)
+            backward = backward_failure if c.use_failure else backward_success
+            g_r = backward(p, c, G[0], list(MINUSES))[2]
+            for x in (-g_r, up(-g_r)):
+                reverse(*step, G[0], G[1], x)
+
+
+def zero_cases():
+    remark("zeros by their sign: a difficulty that is the easy one, and a stability's gradient too small to be told from -0.0")
+    take(with_some(DEFAULT, w4=5, w5=0))
+    reverse(*at(5, 5, 5, 3), *G)
+    reverse(*at(5, 5, 5, 3), *PLUS)
+    take(with_some(DEFAULT, w17=3, w18=0, w19=-ZERO))
+    reverse(*at("12.5", "4.5", 0, 1), -LEAST64, double(0), -G[2])
+
+
+def slot_cases():
+    for text, slots in (("+0.0", [double(0)] * 23), ("numbers", NUMBERED), ("what addition treats apart", MIXED)):
+        remark("starting slots: " + text)
+        start(slots)
+        for name, step in STEPS.items():
+            if name not in ("padding at row 0", "success, plain"):
+                reverse(*step, *G)
+        reverse(*STEPS["success, plain"], double(0), -double(0), double(0))
+        reverse(*STEPS["first, rating 1"], -double(0), double(0), double(0))
+    remark("starting slots one step from what is added, with the sign turned")
+    for name in ("lapse, raw", "success, easy", "same-day, raw", "first, rating 4"):
+        gw = list(MINUSES)
+        p, _, c = stepped(DEFAULT, *STEPS[name])
+        step_backward(p, c, *G, gw)
+        start([-x if i % 2 or x == 0 else up(-x) for i, x in enumerate(gw)])
+        reverse(*STEPS[name], *G)
+    start(MINUSES)
+
+
+# ---- refusals
+
+def refusal_cases():
+    good = at("12.5", "6.25", 10, 3)
+    take(DEFAULT)
+    remark("refusal 13: a state that is not finite, in every branch; before a rating and a day")
+    for x in (NONE, INF, -INF):
+        for step in (good[2:], (ZERO, ZERO, 0), (ONE, ONE, 0)):
+            forward(x, single(5), *step)
+            reverse(ZERO, x, *step, *G)
+    both((NONE, NONE, NONE, NONE, 0), G)
+    both((single(5), INF, BEYOND, single(5), 1), G)
+    remark("refusal 6: ratings other than 0 to 4, in a first step too; before a day")
+    for text in ("5", "0.5", "-1", "1.5", "4.000001", "3.9999998"):
+        both(at("12.5", "6.25", 10, text), G)
+    for x in (NONE, INF, -INF, LEAST, -LEAST):
+        both(at("12.5", "6.25", BEYOND, x), G)
+        forward(*at(0, 0, NONE, x, 0))
+    reverse(*at(0, 0, 0, "0.5", 0), *G)
+    remark("refusal 7: read days beyond the range; row 0 with a stability, a later row without one")
+    assert up(DAY_MAX) == BEYOND
+    for x in (BEYOND, -BEYOND, NONE, INF, -INF):
+        both(at("12.5", "6.25", x, between(1, 4)), G)
+        forward(*at(either(LEAST, single("12.5")), "6.25", x, between(1, 4), 0))
+        forward(*at(0, 0, x, between(1, 4), 1))
+    remark("refusal 5: not 21 slots; after 1 and 2, before 13, 6 and 7")
+    for n in (0, 1, 20, 22, 23):
+        start(NUMBERED, n)
+        reverse(*either(good, at(0, 0, 0, 0, 0), at(0, 0, 0, 1, 0)), *G)
+        reverse(*at(NONE, INF, NONE, 5), *G)
+        reverse(*at(ONE, ONE, either(ONE, NONE), either(ONE, NONE)), *G)
+    outside = with_some(DEFAULT, w20=up(ONE))
+    remark("refusals 1 and 2 before all others")
+    for w in (outside, outside + [ONE], DEFAULT[:20], [], DEFAULT + [ONE, ONE]):
+        take(w)
+        start(NUMBERED, 20)
+        reverse(*good, *G)
+        start(NUMBERED)
+        both(good, G)
+        both(at(NONE, 5, NONE, 5), G)
+    remark("refusal 2: each weight next to its box, infinite or NaN")
+    for i in range(21):
+        low, high = BOX[i]
+        take(with_some(DEFAULT, **{"w%d" % i: either(down(low), up(high), NONE, INF, -INF)}))
+        if i % 2:
+            forward(*good)
+        else:
+            reverse(*good, *G)
+    start(MINUSES)
+
+
+# ---- corners of the box, and pseudo-random ones
+
+def corner(is_high):
+    return [BOX[i][is_high(i)] for i in range(21)]
+
+
+def corner_cases():
+    corners = [LOWEST, HIGHEST, NEGATIVE_ZEROS, corner(lambda i: i % 2), corner(lambda i: 1 - i % 2)]
+    for w in corners + [corner(lambda i: below(2)) for _ in range(2)]:
+        take(w)
+        both(at(0, 0, 0, between(1, 4), 0), G)
+        for s, d in ((S_MIN, D_MIN), (single(20), single(5)), (S_MAX, D_MAX)):
+            reverse(*at(s, d, either(ZERO, -ZERO), between(1, 4)), *G)
+            reverse(*at(s, d, either(ONE, DAY_MAX, single(-3)), 1), *G)
+            both(at(s, d, either(ONE, DAY_MAX, single(30)), between(1, 4)), G)
+
+
+def some_single(low, high):
+    """From low to high, neither of them negative: any pattern between, or any number."""
+    if below(2):
+        return Number(F32, between(low.b, high.b))
+    a, b = F32.size(low.b), F32.size(high.b)
+    return Number(F32, F32.rounded(False, a + (b - a) * Fraction(below(1 << 40), 1 << 40)))
+
+
+def some_weight(i):
+    low, high = BOX[i]
+    if below(8) == 0:
+        return either(low, high)
+    if low < 0:  # from -5 to 5
+        return either(some_single(ZERO, high), -some_single(ZERO, high))
+    return some_single(low, high)
+
+
+def some_set():
+    return [some_weight(i) for i in range(21)]
+
+
+def near_default():
+    """The default weights, each by up to a half more or less, within the box."""
+    parts = [Fraction(512 + below(1025), 1024) for _ in DEFAULT]
+    return [clamp(Number(F32, F32.rounded(False, F32.size(x.b) * q)), *BOX[i]) for i, (x, q) in enumerate(zip(DEFAULT, parts))]
+
+
+def some_grad():
+    """A double of any digits, from 2 ^ -9 to 2 ^ 6."""
+    b = F64.exactly(1, between(-9, 5)) + below(F64.hidden)
+    return Number(F64, b + either(0, F64.sign))
+
+
+def some_state():
+    return some_single(S_MIN, S_MAX), some_single(D_MIN, D_MAX)
+
+
+def some_cases(steps, reverses):
+    days = (lambda: ZERO), (lambda: some_single(ONE, single(400))), (lambda: some_single(single("0.01"), DAY_MAX))
+    for i in range(steps):
+        s, d = some_state()
+        rating = between(1, 4)
+        step = at(s, d, days[min(i, 2)](), rating)
+        forward(*step)
+        for _ in range(reverses):
+            reverse(*step, some_grad(), some_grad(), some_grad())
+
+
+# ---- misreadings: what a quotient or a product in another order seldom shows
+
+def another_floor():
+    """A step whose floor by a product differs, and gradients."""
+    p = runtime_params(DEFAULT)
+    while True:
+        s = some_single(S_MIN, single(100))
+        if s / p.failure_floor_divisor != s * (ONE / p.failure_floor_divisor):
+            return at(s, "2.5", either(10, 10000), 1), G
+
+
+def another_first():
+    e = (double(3) * wide(take.weights[5])).exp()
+    while True:
+        g = some_grad()
+        if g * -3 * e != g * (-3 * e):
+            return at(0, 0, 0, 4, 0), (G[0], g, G[2])
+
+
+def another_success():
+    """The curve is left out, so that it hides no last bit."""
+    while True:
+        step = at(some_single(ONE, single(100)), some_single(D_MIN, D_MAX), 20, between(2, 4))
+        p, _, c = stepped(DEFAULT, *step)
+        g, gw = some_grad(), list(MINUSES)
+        g_s, _, g_r = backward_success(p, c, g, gw)
+        s, w9 = wide(c.last_s), wide(DEFAULT[9])
+        direct = g_s - gw[8] * (-w9 / s)  # near g * (inc + 1)
+        if gw[8] * (-w9 / s) != gw[8] * -w9 / s and direct + gw[8] * (-w9 / s) != direct + gw[8] * -w9 / s:
+            return step, (g, G[1], -g_r)
+
+
+def misread_cases():
+    take(DEFAULT)
+    for misread in (another_floor, another_floor, *[another_success] * 4):
+        step, g = misread()
+        both(step, g)
+    take(with_some(DEFAULT, w5="0.3"))  # so that the difficulty of rating 4 is within its range
+    for _ in range(2):
+        step, g = another_first()
+        reverse(*step, *g)
+
+
+def main():
+    remark("Test vectors of analytic_v6's step and its reverse, seed %d: made by tools/step_vectors.py, which says how" % seeded())
+    names_hold()
+    take(DEFAULT)
+    start(MINUSES)
+    branch_cases()
+    raw_one_cases()
+    lapse_cases()
+    output_clamp_cases()
+    state_cases()
+    gradient_cases()
+    cancelled_cases()
+    zero_cases()
+    slot_cases()
+    refusal_cases()
+    remark("corners of the box: all low, all high, all zeros negative, by turns, and pseudo-random ones")
+    corner_cases()
+    remark("pseudo-random: where a quotient or a product in another order gives another answer, though seldom")
+    misread_cases()
+    remark("pseudo-random: states, days and gradients, with weights near the default and with others")
+    for _ in range(8):
+        take(near_default())
+        some_cases(3, 1)
+    for _ in range(6):
+        take(some_set())
+        some_cases(3, 1)
+    lines.write("step_vectors")
+
+
+main()
