@@ -7,11 +7,11 @@ use lib.Dec.{eqb}
 use lib.Ieee.{Float}
 use lib.ListN.{length}
 use borrow.Author.Tests.{eq-eqb, ne-eqb, eqb-true}
-use Rattle.domain.specs.Weights.{copyDef, weightsRefusal}
-use Rattle.domain.proofs.Accepted.{accepted-length}
-use Rattle.domain.proofs.Copy.{copy-whole}
-use Rattle.forward.specs.Params.{paramsDef}
-use Rattle.forward.specs.declared.stability.State.{State}
+use Rattle.weights.specs.Weights.{copyDef, weightsRefusal}
+use Rattle.weights.proofs.Accepted.{accepted-length}
+use Rattle.weights.proofs.Copy.{copy-whole}
+use Rattle.branches.specs.Params.{paramsDef}
+use Rattle.branches.specs.declared.stability.State.{State}
 use Rattle.backward.specs.Step.{stepGrad, stepMoved}
 use Rattle.analytic_v6.specs.Step.{stepRefusal, noState, blank, stepped, trainingStep, noReverse, trainingReverse, reverseRefusal, reverseSlots}
 

@@ -8,11 +8,11 @@ use lib.Ieee.Scale.{finite}
 use lib.ListN.{length}
 use Rattle.domain.specs.Floats.{within}
 use Rattle.domain.specs.Limits.{zero32, one, two, three, four, DAY_MAX}
-use Rattle.domain.specs.Weights.{weightsRefusal}
-use Rattle.forward.specs.Params.{paramsDef}
+use Rattle.weights.specs.Weights.{weightsRefusal}
+use Rattle.branches.specs.Params.{paramsDef}
 use Rattle.forward.specs.Step.{isFirst, stepDef}
-use Rattle.forward.specs.declared.stability.Branch.the-variants.{Padding}
-use Rattle.forward.specs.declared.stability.State.{State}
+use Rattle.branches.specs.declared.stability.Branch.the-variants.{Padding}
+use Rattle.branches.specs.declared.stability.State.{State}
 use Rattle.forward.specs.declared.step.StepRecord.{StepRecord}
 use Rattle.forward.specs.declared.step.Stepped.{Stepped}
 use Rattle.slots.specs.Slots.{zero64}

@@ -6,16 +6,16 @@ ghost use lib.ListN.{length};
 ghost use Rattle.analytic_v6.specs.Step.{isRating, isUnread, finiteState, stepRefusal, blank, trainingStep, noReverse, trainingReverse, reverseSlots};
 use backward::step::StateGrad;
 use backward::step::step_backward;
+use branches::params::runtime_params;
+use branches::stability::Branch;
+use branches::stability::State;
 use domain::floats::is_finite;
 use domain::limits::is_day;
-use domain::weights::copy_weights;
-use domain::weights::weights_refusal;
-use forward::params::runtime_params;
-use forward::stability::Branch;
-use forward::stability::State;
 use forward::step::StepRecord;
 use forward::step::is_first;
 use forward::step::step_forward;
+use weights::copy_weights;
+use weights::weights_refusal;
 
 // The number of a refusal, 0 where there is none; the state after the step and its record, all +0.0 where there is one.
 pub struct TrainingStep {

@@ -4,9 +4,9 @@ use mathlib.Core.Bool.{Bool}
 use mathlib.Core.List.{List}
 use mathlib.Core.Path.{_≡_}
 use lib.Ieee.{Float}
-use Rattle.forward.specs.declared.params.RuntimeParams.{RuntimeParams}
-use Rattle.forward.specs.declared.stability.Branch.{Branch}
-use Rattle.forward.specs.declared.stability.Branch.the-variants.{Padding, First, SameDay, Lapse, Success}
+use Rattle.branches.specs.declared.params.RuntimeParams.{RuntimeParams}
+use Rattle.branches.specs.declared.stability.Branch.{Branch}
+use Rattle.branches.specs.declared.stability.Branch.the-variants.{Padding, First, SameDay, Lapse, Success}
 use Rattle.forward.specs.declared.step.StepRecord.{StepRecord}
 use Rattle.backward.specs.Step.{carried, firstFlow, firstMoved, shortFlow, shortAll, lapseFlow, lapseAll, successFlow, successAll, flowDef, flowMoved}
 

@@ -8,14 +8,14 @@ use lib.Ieee.{Float, eq, ne, nan}
 use lib.Seq.{getD-set-other}
 use borrow.Author.Tests.{eqb-false}
 use Rattle.domain.specs.Limits.{two, four}
-use Rattle.domain.specs.Weights.{_!_}
-use Rattle.forward.specs.Params.{initDifficulty}
+use Rattle.weights.specs.Weights.{_!_}
+use Rattle.branches.specs.Params.{initDifficulty}
 use Rattle.forward.specs.Reads.{among, firstWeights, common, successWeights}
-use Rattle.forward.specs.declared.curve.CurveCache.{CurveCache}
-use Rattle.forward.specs.declared.params.RuntimeParams.{RuntimeParams}
-use Rattle.forward.specs.declared.stability.Branch.{Branch}
-use Rattle.forward.specs.declared.stability.Branch.the-variants.{Padding, First, SameDay, Lapse, Success}
-use Rattle.forward.specs.declared.stability.State.{State}
+use Rattle.branches.specs.declared.curve.CurveCache.{CurveCache}
+use Rattle.branches.specs.declared.params.RuntimeParams.{RuntimeParams}
+use Rattle.branches.specs.declared.stability.Branch.{Branch}
+use Rattle.branches.specs.declared.stability.Branch.the-variants.{Padding, First, SameDay, Lapse, Success}
+use Rattle.branches.specs.declared.stability.State.{State}
 use Rattle.forward.specs.declared.step.StepRecord.{StepRecord}
 use Rattle.slots.specs.Curve.{curveSlots}
 use Rattle.slots.specs.Difficulty.{meanGrad, partsOf, difficultySlots, difficultyMoved, initSlots, initMoved}

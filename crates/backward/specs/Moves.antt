@@ -5,8 +5,8 @@ use mathlib.Core.List.{List, [], _∷_}
 use lib.Dec.{eqb}
 use lib.Ieee.{Float, eq}
 use Rattle.forward.specs.Reads.{among, firstWeights, common, successWeights}
-use Rattle.forward.specs.declared.stability.Branch.{Branch}
-use Rattle.forward.specs.declared.stability.Branch.the-variants.{Padding, First, SameDay, Lapse, Success}
+use Rattle.branches.specs.declared.stability.Branch.{Branch}
+use Rattle.branches.specs.declared.stability.Branch.the-variants.{Padding, First, SameDay, Lapse, Success}
 use Rattle.forward.specs.declared.step.StepRecord.{StepRecord}
 use Rattle.slots.specs.Slots.{zero64}
 

@@ -5,12 +5,12 @@ use mathlib.Core.List.{List}
 use lib.Ieee.{Float}
 use Rattle.domain.specs.Floats.{_+ᶠ_, _*ᶠ_, _/ᶠ_, maxDef}
 use Rattle.domain.specs.Limits.{zero32, one, S_MIN, S_MAX, D_MIN, D_MAX}
-use Rattle.domain.specs.Weights.{_!_}
-use Rattle.forward.specs.Single.{_+ᵈ_, _*ᵈ_}
-use Rattle.forward.specs.declared.curve.CurveCache.{CurveCache}
-use Rattle.forward.specs.declared.params.RuntimeParams.{RuntimeParams}
-use Rattle.forward.specs.declared.stability.Branch.{Branch}
-use Rattle.forward.specs.declared.stability.Branch.the-variants.{Padding, First, SameDay, Lapse, Success}
+use Rattle.weights.specs.Weights.{_!_}
+use Rattle.branches.specs.Single.{_+ᵈ_, _*ᵈ_}
+use Rattle.branches.specs.declared.curve.CurveCache.{CurveCache}
+use Rattle.branches.specs.declared.params.RuntimeParams.{RuntimeParams}
+use Rattle.branches.specs.declared.stability.Branch.{Branch}
+use Rattle.branches.specs.declared.stability.Branch.the-variants.{Padding, First, SameDay, Lapse, Success}
 use Rattle.forward.specs.declared.step.StepRecord.{StepRecord}
 use Rattle.slots.specs.Curve.{curveBack, curveSlots}
 use Rattle.slots.specs.Difficulty.{difficultyBack, difficultyMoved, initMoved}

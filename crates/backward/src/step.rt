@@ -1,10 +1,10 @@
 // One step's reverse, through the branch that its record names.
 ghost use mathlib.Core.Path.{_≡_};
 ghost use Rattle.backward.specs.Step.{carried, firstFlow, firstMoved, shortFlow, shortAll, lapseFlow, lapseAll, successFlow, successAll, flowDef, flowMoved, recordCurve, stepGrad, stepMoved};
+use branches::curve::CurveCache;
+use branches::params::RuntimeParams;
+use branches::stability::Branch;
 use domain::floats::max;
-use forward::curve::CurveCache;
-use forward::params::RuntimeParams;
-use forward::stability::Branch;
 use forward::step::StepRecord;
 use gradients::stability::Grads;
 use gradients::stability::backward_failure;

@@ -1,5 +1,4 @@
-// What every layer above shares: Rust's methods of an f32 that compare (`floats`), the limits of stability, difficulty
-// and days (`limits`), and the box of the 21 weights with their defaults (`weights`).
+// What every layer above shares: Rust's methods of an f32 that compare (`floats`), and the ranges of stability, difficulty
+// and days (`limits`).
 pub mod floats;
 pub mod limits;
-pub mod weights;

@@ -5,7 +5,7 @@ use mathlib.Core.Bool.{true, false, _&&_}
 use mathlib.Core.List.{List}
 use lib.Ieee.{Float}
 use lib.ListN.{length}
-use Rattle.domain.specs.Weights.{boxed, allFinite}
+use Rattle.weights.specs.Weights.{boxed, allFinite}
 use Rattle.filling.specs.Filling.{lengthGood, fillDef, fillRefusal, unfilled, fillAnswer}
 
 pub no-length : (p : List Float) → lengthGood (length p) ≡ false → unfilled 12 ≡ fillAnswer p

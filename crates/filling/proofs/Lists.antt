@@ -11,8 +11,8 @@ use Rattle.soft.specs.Fma.{fmaDef}
 use Rattle.kernels.specs.Kernels.{lnDef}
 use Rattle.domain.specs.Floats.{_+ᶠ_, _/ᶠ_}
 use Rattle.domain.specs.Limits.{zero32, half, one, two, three}
-use Rattle.domain.specs.Weights.{_!_, copyDef}
-use Rattle.domain.proofs.Copy.{copy-short}
+use Rattle.weights.specs.Weights.{_!_, copyDef}
+use Rattle.weights.proofs.Copy.{copy-short}
 use Rattle.filling.specs.Filling.{fill17, fill19}
 
 set-past : (p q : List Float) (k : ℕ) (a : Float) → set (p ++ q) (length p + k) a ≡ p ++ set q k a

@@ -9,7 +9,7 @@ use Rattle.soft.specs.Fma.{fmaDef}
 use Rattle.kernels.specs.Kernels.{lnDef}
 use Rattle.domain.specs.Floats.{_+ᶠ_, _/ᶠ_}
 use Rattle.domain.specs.Limits.{zero32, half, one, two, three}
-use Rattle.domain.specs.Weights.{_!_, FSRS6_DEFAULT_PARAMETERS, boxed, allFinite}
+use Rattle.weights.specs.Weights.{_!_, FSRS6_DEFAULT_PARAMETERS, boxed, allFinite}
 use Rattle.filling.specs.declared.Filled.{Filled}
 
 abbrev pub FSRS5_DEFAULT_DECAY : Float

@@ -10,7 +10,7 @@ use Rattle.soft.specs.HalfAway.{roundDef}
 use Rattle.kernels.specs.Kernels.{expDef, powDef}
 use Rattle.domain.specs.Floats.{_+ᶠ_, _-ᶠ_, _*ᶠ_, _/ᶠ_, clampDef, maxDef, minDef}
 use Rattle.domain.specs.Limits.{decimal, zero32, one, three, nine, ten, eleven, ratingOffset, S_MIN, S_MAX, D_MIN, D_MAX}
-use Rattle.domain.specs.Weights.{_!_}
+use Rattle.weights.specs.Weights.{_!_}
 
 abbrev pub exp : Float → Float
 exp x = expDef binary32 x

@@ -8,14 +8,14 @@ use lib.Ieee.{Float, neg, eq}
 use borrow.Author.Tests.{eq-eqb}
 use mathlib.Core.Bool.{or-assoc}
 use Rattle.domain.specs.Limits.{zero32, one, two, four}
-use Rattle.domain.specs.Weights.{_!_}
-use Rattle.forward.specs.Curve.{curveForward}
-use Rattle.forward.specs.Params.{curveFactor, paramsDef}
+use Rattle.weights.specs.Weights.{_!_}
+use Rattle.branches.specs.Curve.{curveForward}
+use Rattle.branches.specs.Params.{curveFactor, paramsDef}
 use Rattle.forward.specs.Reads.{among, firstWeights, common, successWeights, reviewReads, stepReads, Agree}
-use Rattle.forward.specs.Stability.{successDef}
+use Rattle.branches.specs.Stability.{successDef}
 use Rattle.forward.specs.Step.{clampState, ratingNumber, isFirst, moveDef, firstDef, reviewDef, stepDef}
-use Rattle.forward.specs.declared.stability.Move.{Move}
-use Rattle.forward.specs.declared.stability.State.{State}
+use Rattle.branches.specs.declared.stability.Move.{Move}
+use Rattle.branches.specs.declared.stability.State.{State}
 use Rattle.forward.specs.declared.step.Stepped.{Stepped}
 
 -- a choice between equal things, each under its test

@@ -1,3 +1,2 @@
 -- Laws of the definitions.
-pub mod Literals
 pub mod Agreement

@@ -1,6 +1,2 @@
-pub mod Curve
-pub mod Params
 pub mod Reads
-pub mod Single
-pub mod Stability
 pub mod Step

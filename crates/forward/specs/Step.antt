@@ -5,14 +5,14 @@ use lib.Dec.{eqb}
 use lib.Ieee.{Float, neg, eq}
 use Rattle.domain.specs.Floats.{_+ᶠ_, _-ᶠ_, _*ᶠ_, _/ᶠ_, clampDef}
 use Rattle.domain.specs.Limits.{zero32, one, two, three, nine, ten, S_MIN, S_MAX, D_MIN, D_MAX}
-use Rattle.domain.specs.Weights.{_!_}
-use Rattle.forward.specs.Curve.{curveForward}
-use Rattle.forward.specs.Params.{initDifficulty}
-use Rattle.forward.specs.Stability.{shortDef, lapseDef, successDef}
-use Rattle.forward.specs.declared.params.RuntimeParams.{RuntimeParams}
-use Rattle.forward.specs.declared.stability.Branch.the-variants.{Padding, First}
-use Rattle.forward.specs.declared.stability.Move.{Move}
-use Rattle.forward.specs.declared.stability.State.{State}
+use Rattle.weights.specs.Weights.{_!_}
+use Rattle.branches.specs.Curve.{curveForward}
+use Rattle.branches.specs.Params.{initDifficulty}
+use Rattle.branches.specs.Stability.{shortDef, lapseDef, successDef}
+use Rattle.branches.specs.declared.params.RuntimeParams.{RuntimeParams}
+use Rattle.branches.specs.declared.stability.Branch.the-variants.{Padding, First}
+use Rattle.branches.specs.declared.stability.Move.{Move}
+use Rattle.branches.specs.declared.stability.State.{State}
 use Rattle.forward.specs.declared.step.StepRecord.{StepRecord}
 use Rattle.forward.specs.declared.step.Stepped.{Stepped}
 

@@ -2,15 +2,15 @@
 ghost use mathlib.Core.Path.{_≡_};
 ghost use Prim.Native.Nat.{_<_};
 ghost use Rattle.forward.specs.Step.{clampState, ratingNumber, isFirst, difficultyDef, moveDef, paddingDef, firstDef, reviewDef, stepDef};
-use crate::curve::curve_forward;
-use crate::params::RuntimeParams;
-use crate::params::init_difficulty;
-use crate::stability::Branch;
-use crate::stability::Move;
-use crate::stability::State;
-use crate::stability::lapse;
-use crate::stability::same_day;
-use crate::stability::success;
+use branches::curve::curve_forward;
+use branches::params::RuntimeParams;
+use branches::params::init_difficulty;
+use branches::stability::Branch;
+use branches::stability::Move;
+use branches::stability::State;
+use branches::stability::lapse;
+use branches::stability::same_day;
+use branches::stability::success;
 use domain::limits::clamp_difficulty;
 use domain::limits::clamp_stability;
 

@@ -4,10 +4,10 @@ use mathlib.Core.List.{List}
 use lib.Ieee.{Float, binary64, neg, eq, ofBits}
 use Rattle.domain.specs.Floats.{_+ᶠ_, _-ᶠ_}
 use Rattle.domain.specs.Limits.{one, two, three, four}
-use Rattle.domain.specs.Weights.{_!_}
-use Rattle.forward.specs.Single.{exp64, ln64, pow64, _+ᵈ_, _-ᵈ_, _*ᵈ_, _/ᵈ_}
-use Rattle.forward.specs.declared.params.RuntimeParams.{RuntimeParams}
-use Rattle.forward.specs.declared.stability.State.{State}
+use Rattle.weights.specs.Weights.{_!_}
+use Rattle.branches.specs.Single.{exp64, ln64, pow64, _+ᵈ_, _-ᵈ_, _*ᵈ_, _/ᵈ_}
+use Rattle.branches.specs.declared.params.RuntimeParams.{RuntimeParams}
+use Rattle.branches.specs.declared.stability.State.{State}
 use Rattle.slots.specs.Slots.{zero64, one64, bump, bumpIf}
 use Rattle.gradients.specs.declared.stability.Grads.{Grads}
 use Rattle.gradients.specs.declared.stability.LapseParts.{LapseParts}

@@ -1,10 +1,10 @@
 // The reverse of the three ways in which a review moves the stability.
 ghost use mathlib.Core.Path.{_≡_};
 ghost use Rattle.gradients.specs.Stability.{noGrads, shortSlots, shortGrad, shortBack, shortMoved, floorGrads, floorSlots, lapseParts, lapseSlots, lapseGrads, failureBack, failureMoved, successParts, successSlots, successGrads, successBack, successMoved};
-ghost use Rattle.forward.specs.Single.{_*ᵈ_};
+ghost use Rattle.branches.specs.Single.{_*ᵈ_};
+use branches::params::RuntimeParams;
+use branches::stability::State;
 use domain::floats::choose;
-use forward::params::RuntimeParams;
-use forward::stability::State;
 use kernels::exp::exp_f64;
 use kernels::ln::ln_f64;
 use kernels::pow::pow_f64;

@@ -7,9 +7,9 @@ use lib.Dec.{T, eqb}
 use lib.Ieee.{Float}
 use lib.ListN.{length}
 use borrow.Author.Tests.{eq-eqb, ne-eqb, eqb-true}
-use Rattle.domain.specs.Weights.{copyDef, weightsRefusal}
-use Rattle.domain.proofs.Accepted.{accepted-length}
-use Rattle.domain.proofs.Copy.{copy-whole}
+use Rattle.weights.specs.Weights.{copyDef, weightsRefusal}
+use Rattle.weights.proofs.Accepted.{accepted-length}
+use Rattle.weights.proofs.Copy.{copy-whole}
 use Rattle.model_v6.specs.Answers.{scalarRefusal, scalarDef, refused, accepted}
 use Rattle.model_v6.specs.State.{refusedState, acceptedState, nextDef}
 use Rattle.formulas.specs.declared.state.MemoryState.{MemoryState}

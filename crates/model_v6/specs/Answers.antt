@@ -7,7 +7,7 @@ use lib.Ieee.{Float, neg}
 use lib.Ieee.Scale.{finite}
 use Rattle.domain.specs.Floats.{within}
 use Rattle.domain.specs.Limits.{zero32, one, S_MIN, S_MAX, D_MIN, D_MAX, DAY_MAX}
-use Rattle.domain.specs.Weights.{weightsRefusal}
+use Rattle.weights.specs.Weights.{weightsRefusal}
 use Rattle.model_v6.specs.declared.answer.Scalar.{Scalar}
 
 -- the order 1, 2, 13

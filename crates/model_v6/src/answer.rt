@@ -1,7 +1,7 @@
 // What a formula gives: the number of a refusal, 0 where there is none, and a single, +0.0 where there is one.
 ghost use mathlib.Core.Path.{_≡_};
 ghost use Rattle.model_v6.specs.Answers.{scalarRefusal, refused, accepted};
-use domain::weights::weights_refusal;
+use weights::weights_refusal;
 
 pub struct Scalar {
     pub refusal: u32,

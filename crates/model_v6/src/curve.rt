@@ -9,9 +9,9 @@ use crate::answer::scalar_refusal;
 use domain::floats::both;
 use domain::floats::is_finite;
 use domain::limits::is_day;
-use domain::weights::copy_weights;
 use formulas::curve::next_interval;
 use formulas::curve::power_forgetting_curve;
+use weights::copy_weights;
 
 // What is remembered t days after a review that left the stability s.
 pub fn power_forgetting_curve_scalar(w: &[f32], t: f32, s: f32) -> Scalar

@@ -9,10 +9,10 @@ use crate::answer::scalar_refusal;
 use domain::floats::both;
 use domain::floats::is_finite;
 use domain::limits::is_difficulty;
-use domain::weights::copy_weights;
 use formulas::difficulty::init_difficulty;
 use formulas::difficulty::mean_reversion;
 use formulas::difficulty::next_difficulty;
+use weights::copy_weights;
 
 pub(crate) fn is_rating(rating: u32) -> bool
     ensures { λ r. ⌜ r ≡ ratingGood rating ⌝ }

@@ -11,10 +11,10 @@ use domain::floats::both;
 use domain::floats::is_within;
 use domain::limits::is_difficulty;
 use domain::limits::is_stability;
-use domain::weights::copy_weights;
 use formulas::stability::stability_after_failure;
 use formulas::stability::stability_after_success;
 use formulas::stability::stability_short_term;
+use weights::copy_weights;
 
 // Whether all three lie in their ranges.
 fn in_ranges(s: f32, r: f32, d: f32) -> bool

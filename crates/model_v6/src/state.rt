@@ -6,9 +6,9 @@ use crate::answer::scalar_refusal;
 use domain::floats::both;
 use domain::floats::is_finite;
 use domain::limits::is_day;
-use domain::weights::copy_weights;
 use formulas::state::MemoryState;
 use formulas::state::next_state;
+use weights::copy_weights;
 
 // The number of a refusal, 0 where there is none, and the state, of +0.0 where there is one.
 pub struct NextState {

@@ -1,4 +1,4 @@
-// Each function of `domain`, `filling` and `model_v6` on a line's arguments, compared with the answer there.
+// Each function of `domain`, `weights`, `filling` and `model_v6` on a line's arguments, compared with the answer there.
 use crate::answers::is_filled;
 use crate::answers::is_refusal;
 use crate::answers::is_scalar;
@@ -8,7 +8,6 @@ use crate::answers::is_value;
 use crate::answers::is_weights;
 use domain::floats;
 use domain::limits;
-use domain::weights;
 use formulas::state::MemoryState;
 use model_v6::curve;
 use model_v6::difficulty;

@@ -2,8 +2,8 @@
 use mathlib.Core.Bool.{cond}
 use mathlib.Core.List.{List}
 use lib.Ieee.{Float, neg, eq}
-use Rattle.forward.specs.Single.{ln64, _+ᵈ_, _*ᵈ_, _/ᵈ_}
-use Rattle.forward.specs.declared.curve.CurveCache.{CurveCache}
+use Rattle.branches.specs.Single.{ln64, _+ᵈ_, _*ᵈ_, _/ᵈ_}
+use Rattle.branches.specs.declared.curve.CurveCache.{CurveCache}
 use Rattle.slots.specs.Slots.{zero64, bump}
 use Rattle.slots.specs.declared.curve.Wide.{Wide}
 

@@ -5,10 +5,10 @@ use mathlib.Core.List.{List}
 use lib.Ieee.{Float, binary64, neg, eq, ne, ofBits}
 use Rattle.domain.specs.Floats.{_-ᶠ_}
 use Rattle.domain.specs.Limits.{three, ratingOffset, D_MIN, D_MAX}
-use Rattle.domain.specs.Weights.{_!_}
-use Rattle.forward.specs.Params.{initDifficulty, three64}
-use Rattle.forward.specs.Single.{exp64, _+ᵈ_, _-ᵈ_, _*ᵈ_, _/ᵈ_}
-use Rattle.forward.specs.declared.params.RuntimeParams.{RuntimeParams}
+use Rattle.weights.specs.Weights.{_!_}
+use Rattle.branches.specs.Params.{initDifficulty, three64}
+use Rattle.branches.specs.Single.{exp64, _+ᵈ_, _-ᵈ_, _*ᵈ_, _/ᵈ_}
+use Rattle.branches.specs.declared.params.RuntimeParams.{RuntimeParams}
 use Rattle.slots.specs.Slots.{zero64, one64, bump, clampGrad}
 use Rattle.slots.specs.declared.difficulty.DifficultyParts.{DifficultyParts}
 

@@ -5,7 +5,7 @@ use mathlib.Core.List.{List}
 use lib.Ieee.{Float, binary64, nan, ofBits}
 use lib.ListN.{getD, set}
 use Rattle.domain.specs.Floats.{within}
-use Rattle.forward.specs.Single.{_+ᵈ_}
+use Rattle.branches.specs.Single.{_+ᵈ_}
 
 abbrev pub zero64 : Float
 zero64 = ofBits binary64 0

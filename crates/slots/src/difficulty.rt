@@ -3,9 +3,9 @@ ghost use mathlib.Core.Path.{_≡_};
 ghost use Prim.Native.Nat.{_-_};
 ghost use Rattle.slots.specs.Difficulty.{difficultyParts, difficultySlots, difficultyGrad, meanGrad, difficultyBack, difficultyMoved, initSlots, initMoved};
 use crate::slots::add;
+use branches::params::RuntimeParams;
+use branches::params::init_difficulty;
 use domain::limits::rating_offset;
-use forward::params::RuntimeParams;
-use forward::params::init_difficulty;
 use kernels::exp::exp_f64;
 use std::num::f32_to_f64_with_nan;
 

@@ -1,8 +1,8 @@
-use Rattle.domain.specs.Weights.{allFinite}
+use Rattle.weights.specs.Weights.{allFinite}
 use mathlib.Core.Path.{sym, _∙_}
 use borrow.Author.Tests.{not-true, not-false}
-use Rattle.domain.proofs.All.{both, not-left, not-right}
-use Rattle.domain.proofs.Accepted.{accepted-box, refused-box}
+use Rattle.weights.proofs.All.{both, not-left, not-right}
+use Rattle.weights.proofs.Accepted.{accepted-box, refused-box}
 use Rattle.filling.proofs.Fills.{no-length, outside, inside}
 use borrow.Author.Needs.{needs}
 use Rattle.filling.proofs.check_and_fill_parameters_fsrs6.Statement.{statement}

@@ -2,7 +2,7 @@ use Prim.Native.Nat.{ℕ}
 use mathlib.Core.Path.{_≡_, _∙_}
 use mathlib.Core.Bool.{true}
 use borrow.Author.Tests.{eq-eqb, ne-eqb, eqb-true}
-use Rattle.domain.proofs.Copy.{copy-whole}
+use Rattle.weights.proofs.Copy.{copy-whole}
 use Rattle.filling.specs.Filling.{lengthGood, fillDef}
 use borrow.Author.Needs.{needs}
 use Rattle.filling.proofs.fill.Statement.{statement}

@@ -1,0 +1,4 @@
+pub mod Curve
+pub mod Params
+pub mod Single
+pub mod Stability
