@@ -17,7 +17,6 @@ use Rattle.forward.specs.declared.step.StepRecord.{StepRecord}
 use Rattle.forward.specs.declared.step.Stepped.{Stepped}
 use Rattle.slots.specs.Slots.{zero64}
 use Rattle.backward.specs.Step.{stepGrad, stepMoved}
-use Rattle.backward.specs.declared.step.StateGrad.{StateGrad}
 use Rattle.analytic_v6.specs.declared.step.TrainingStep.{TrainingStep}
 use Rattle.analytic_v6.specs.declared.step.TrainingReverse.{TrainingReverse}
 

@@ -1,9 +1,8 @@
 // One training step, and its reverse.
 ghost use mathlib.Core.Path.{_≡_};
 ghost use mathlib.Core.Bool.{true, _||_};
-ghost use lib.Dec.{eqb};
 ghost use lib.ListN.{length};
-ghost use Rattle.analytic_v6.specs.Step.{isRating, isUnread, finiteState, stepRefusal, blank, trainingStep, noReverse, trainingReverse, reverseSlots};
+ghost use Rattle.analytic_v6.specs.Step.{isRating, isUnread, finiteState, stepRefusal, blank, trainingStep, trainingReverse, reverseSlots};
 use backward::step::StateGrad;
 use backward::step::step_backward;
 use branches::params::runtime_params;

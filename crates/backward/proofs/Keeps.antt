@@ -15,7 +15,6 @@ use Rattle.branches.specs.declared.curve.CurveCache.{CurveCache}
 use Rattle.branches.specs.declared.params.RuntimeParams.{RuntimeParams}
 use Rattle.branches.specs.declared.stability.Branch.{Branch}
 use Rattle.branches.specs.declared.stability.Branch.the-variants.{Padding, First, SameDay, Lapse, Success}
-use Rattle.branches.specs.declared.stability.State.{State}
 use Rattle.forward.specs.declared.step.StepRecord.{StepRecord}
 use Rattle.slots.specs.Curve.{curveSlots}
 use Rattle.slots.specs.Difficulty.{meanGrad, partsOf, difficultySlots, difficultyMoved, initSlots, initMoved}

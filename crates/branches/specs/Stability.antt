@@ -4,7 +4,6 @@ use lib.Ieee.{Float, neg, lt, le, eq}
 use Rattle.domain.specs.Floats.{_+ᶠ_, _-ᶠ_, _*ᶠ_, _/ᶠ_}
 use Rattle.domain.specs.Limits.{one, two, three, four, eleven}
 use Rattle.branches.specs.Single.{exp32, pow32}
-use Rattle.branches.specs.declared.stability.Branch.{Branch}
 use Rattle.branches.specs.declared.stability.Branch.the-variants.{SameDay, Lapse, Success}
 use Rattle.branches.specs.declared.stability.Move.{Move}
 use Rattle.branches.specs.declared.stability.State.{State}

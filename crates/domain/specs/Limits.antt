@@ -3,7 +3,7 @@ use Prim.Native.Nat.{ℕ, _-_}
 use mathlib.Core.Bool.{false}
 use mathlib.Core.Path.{_≡_, refl}
 use lib.IntN.{pos}
-use lib.Ieee.{Float, binary32, ofBits, ofInt, round, size, units, odd, ofFields, neg}
+use lib.Ieee.{Float, binary32, ofBits, ofInt, round}
 
 -- the single nearest to n / d, which is what a decimal stands for
 unfoldable pub decimal : (n d : ℕ) → Float

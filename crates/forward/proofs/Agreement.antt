@@ -14,9 +14,7 @@ use Rattle.branches.specs.Params.{curveFactor, paramsDef}
 use Rattle.forward.specs.Reads.{among, firstWeights, common, successWeights, reviewReads, stepReads, Agree}
 use Rattle.branches.specs.Stability.{successDef}
 use Rattle.forward.specs.Step.{clampState, ratingNumber, isFirst, moveDef, firstDef, reviewDef, stepDef}
-use Rattle.branches.specs.declared.stability.Move.{Move}
 use Rattle.branches.specs.declared.stability.State.{State}
-use Rattle.forward.specs.declared.step.Stepped.{Stepped}
 
 -- a choice between equal things, each under its test
 pub by-cases : {A : Type 0} (b : Bool) (x y x′ y′ : A) → (b ≡ true → x ≡ x′) → (b ≡ false → y ≡ y′) → cond b x y ≡ cond b x′ y′

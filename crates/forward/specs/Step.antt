@@ -13,7 +13,6 @@ use Rattle.branches.specs.declared.params.RuntimeParams.{RuntimeParams}
 use Rattle.branches.specs.declared.stability.Branch.the-variants.{Padding, First}
 use Rattle.branches.specs.declared.stability.Move.{Move}
 use Rattle.branches.specs.declared.stability.State.{State}
-use Rattle.forward.specs.declared.step.StepRecord.{StepRecord}
 use Rattle.forward.specs.declared.step.Stepped.{Stepped}
 
 unfoldable pub clampState : State → State
