@@ -1,7 +1,7 @@
 -- How a review moves the stability, from step_forward of analytic_v6.rs. Each takes the weights that document 01 lets its branch read, and no other. Assumes nothing.
-use mathlib.Core.Bool.{Bool, true, false, _&&_, cond}
+use mathlib.Core.Bool.{Bool, true, false, not, _&&_, cond}
 use lib.Ieee.{Float, neg, lt, le, eq}
-use Rattle.domain.specs.Floats.{_+ᶠ_, _-ᶠ_, _*ᶠ_, _/ᶠ_}
+use Rattle.domain.specs.Floats.{_+ᶠ_, _-ᶠ_, _*ᶠ_, _/ᶠ_, maxDef}
 use Rattle.domain.specs.Limits.{one, two, three, four, eleven}
 use Rattle.branches.specs.Single.{exp32, pow32}
 use Rattle.branches.specs.declared.stability.Branch.the-variants.{SameDay, Lapse, Success}
@@ -16,10 +16,16 @@ shortRaw w17 w18 w19 s rating = exp32 (w17 *ᶠ (rating -ᶠ three +ᶠ w18)) *�
 unfoldable pub isFloored : (rating raw : Float) → Bool
 isFloored rating raw = le two rating && lt raw one
 
+-- if rating >= 2.0 { short_raw.max(1.0) } else { short_raw }
+unfoldable pub shortValue : (rating raw : Float) → Float
+shortValue rating raw = cond (le two rating) (maxDef raw one) raw
+
+-- short_raw_active is !(rating >= 2.0 && short_raw < 1.0)
 unfoldable pub shortDef : (w17 w18 w19 s rating : Float) → Move
 shortDef w17 w18 w19 s rating =
     let raw = shortRaw w17 w18 w19 s rating in
-    cond (isFloored rating raw) (record { s = s *ᶠ one; branch = SameDay raw one false }) (record { s = s *ᶠ raw; branch = SameDay raw raw true })
+    let value = shortValue rating raw in
+    record { s = s *ᶠ value; branch = SameDay raw value (not (isFloored rating raw)) }
 
 -- w[11] * last_d.powf(-w[12]) * ((last_s + 1.0).powf(w[13]) - 1.0) * ((1.0 - r) * w[14]).exp()
 unfoldable pub lapseRaw : (w11 w12 w13 w14 s d r : Float) → Float

@@ -1,8 +1,9 @@
 // How a review moves the stability: on the same day, after a lapse, after a success. Each gives the branch with the
 // numbers that its reverse needs, and the stability before the clamp.
 ghost use mathlib.Core.Path.{_≡_};
-ghost use Rattle.branches.specs.Stability.{shortRaw, isFloored, shortDef, lapseRaw, lapseMove, lapseDef, successDef};
+ghost use Rattle.branches.specs.Stability.{shortRaw, isFloored, shortValue, shortDef, lapseRaw, lapseMove, lapseDef, successDef};
 use domain::floats::choose;
+use domain::floats::max;
 use kernels::exp::exp_f32;
 use kernels::pow::pow_f32;
 
@@ -32,31 +33,34 @@ fn short_raw(w17: f32, w18: f32, w19: f32, s: f32, rating: f32) -> f32
     exp_f32(w17 * (rating - 3.0 + w18)) * pow_f32(s, -w19)
 }
 
-// Whether the raw multiplier below 1 becomes 1. Exactly 1 counts as raw.
+// Whether a raw multiplier below 1 became 1. Exactly 1 counts as raw.
 fn is_floored(rating: f32, raw: f32) -> bool
     ensures { λ r. ⌜ r ≡ isFloored rating raw ⌝ }
 {
     if rating >= 2.0 { raw < 1.0 } else { false }
 }
 
+// A recalled card does not lose by a review on the same day.
+fn short_value(rating: f32, raw: f32) -> f32
+    ensures { λ r. ⌜ r ≡ shortValue rating raw ⌝ }
+{
+    if rating >= 2.0 {
+        return max(raw, 1.0);
+    }
+    raw
+}
+
 pub fn same_day(w17: f32, w18: f32, w19: f32, s: f32, rating: f32) -> Move
     ensures { λ r. ⌜ r ≡ shortDef w17 w18 w19 s rating ⌝ }
 {
     let raw = short_raw(w17, w18, w19, s, rating);
-    if is_floored(rating, raw) {
-        let branch = Branch::SameDay {
-            raw,
-            value: 1.0,
-            active: false,
-        };
-        return Move { s: s * 1.0, branch };
+    let value = short_value(rating, raw);
+    let active = !is_floored(rating, raw);
+    let branch = Branch::SameDay { raw, value, active };
+    Move {
+        s: s * value,
+        branch,
     }
-    let branch = Branch::SameDay {
-        raw,
-        value: raw,
-        active: true,
-    };
-    Move { s: s * raw, branch }
 }
 
 fn lapse_raw(w11: f32, w12: f32, w13: f32, w14: f32, s: f32, d: f32, r: f32) -> f32

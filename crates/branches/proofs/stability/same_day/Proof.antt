@@ -6,16 +6,15 @@ use Rattle.branches.proofs.stability.same_day.Tie as tie
 short-raw-requires : tie.Need-short-raw-requires
 short-raw-requires c κs = search needs
 
+short-value-requires : tie.Need-short-value-requires
+short-value-requires c κs = search needs
+
 is-floored-requires : tie.Need-is-floored-requires
 is-floored-requires c κs = search needs
 
 returns : tie.Need-returns
 unfolding shortDef
-returns c = rw (← c .before .before .short-raw .ensures, ← c .before .is-floored .ensures, c .if1 .taken)
-
-returns-2 : tie.Need-returns-2
-unfolding shortDef
-returns-2 c = rw (← c .before .before .short-raw .ensures, ← c .before .is-floored .ensures, c .if1 .left)
+returns c = rw (c .is-floored .ensures, c .before .short-value .ensures, c .before .before .short-raw .ensures)
 
 pub same-day-spec : {M : Type 1} → statement M
-same-day-spec = tie.close (tie.spec short-raw-requires is-floored-requires returns returns-2)
+same-day-spec = tie.close (tie.spec short-raw-requires short-value-requires is-floored-requires returns)
