@@ -21,3 +21,11 @@ slotsOf Success rating = successWeights rating
 -- 'A scored curve may move slot 20': g-r is the gradient that comes in by the retrievability
 unfoldable pub mayMove : (c : StepRecord) (g-r : Float) (k : ℕ) → Bool
 mayMove c g-r k = among k (slotsOf (c .branch) (c .rating)) || (eqb k 20 && not (eq g-r zero64))
+
+-- The weights that a step's reverse reads: those of its branch, and 20, by which every curve goes.
+unfoldable pub reverseReads : (branch : Branch) (rating : Float) → List ℕ
+reverseReads Padding rating = 20 ∷ []
+reverseReads (First n) rating = 4 ∷ 5 ∷ 20 ∷ []
+reverseReads (SameDay raw value active) rating = 17 ∷ 18 ∷ 19 ∷ common
+reverseReads (Lapse raw floor floored) rating = 11 ∷ 12 ∷ 13 ∷ 14 ∷ 17 ∷ 18 ∷ common
+reverseReads Success rating = successWeights rating
