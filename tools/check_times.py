@@ -1,6 +1,6 @@
 #!/usr/bin/env python3
-"""Writes docs/CHECK-TIMES.md from what the gate printed: tools/check_times.py LOG SECONDS, where LOG is the output of .ci/run and
-SECONDS what the whole of it took."""
+"""Writes docs/CHECK-TIMES.md from what the gate printed: tools/check_times.py LOG SECONDS [WHY], where LOG is the output of .ci/run,
+SECONDS what the whole of it took, and WHY, if it grew much, says why."""
 import datetime
 import os
 import re
@@ -8,7 +8,7 @@ import sys
 
 
 def main():
-    if len(sys.argv) != 3:
+    if len(sys.argv) not in (3, 4):
         sys.exit(__doc__)
     proved, edits, last = {}, {}, ""
     with open(sys.argv[1], encoding="utf-8", errors="replace") as log:
@@ -27,6 +27,7 @@ def main():
         each = f"{min(e)} to {max(e)}" if e else ""
         out.append(f"| `{crate}` | {seconds} | {len(e) or ''} | {each} | {sum(e) // 2 if e else ''} |")
     out += ["", f"The whole gate: {whole} seconds ({whole / 60:.1f} minutes), '{last}'."]
+    out += ["", *sys.argv[3:]] if sys.argv[3:] else []
     path = os.path.join(os.path.dirname(os.path.abspath(__file__)), "..", "docs", "CHECK-TIMES.md")
     with open(path, "w", encoding="utf-8") as page:
         page.write("\n".join(out) + "\n")

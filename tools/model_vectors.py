@@ -50,6 +50,7 @@ from fractions import Fraction
 from functools import partial
 
 import floats
+import rules
 from floats import F32, NAN
 from vectors import Lines, below, between, either, seeded
 
@@ -125,16 +126,8 @@ MINUS = neg(ZERO)
 S_MIN, S_MAX, D_MIN, D_MAX = number("0.0001"), number("36500"), number("1"), number("10")
 DAY_MAX = number("100000")
 FSRS5_DEFAULT_DECAY = number("0.5")
-FSRS6_DEFAULT_PARAMETERS = [number(text) for text in """
-    0.212 1.2931 2.3065 8.2956 6.4133 0.8334 3.0194 0.001 1.8722 0.1666 0.796
-    1.4835 0.0614 0.2629 1.6483 0.6014 1.8729 0.5425 0.0912 0.0658 0.1542""".split()]
-BOX = {}
-for low, high, places in (
-    ("0.0001", "36500", (0, 1, 2, 3)), ("0", "20", (4,)), ("0", "4", (5,)), ("0", "6", (6,)),
-    ("0", "1", (7, 9, 12, 13, 15, 19)), ("-5", "5", (8,)), ("0", "5", (10, 14)), ("0.001", "10", (11,)),
-    ("1", "10", (16,)), ("0", "3", (17, 18)), ("0.1", "1", (20,)),
-):
-    BOX.update((i, (number(low), number(high))) for i in places)
+FSRS6_DEFAULT_PARAMETERS = [number(text) for text in rules.FSRS6_DEFAULT_PARAMETERS]
+BOX = {i: (number(low), number(high)) for i, (low, high) in rules.BOX.items()}
 LOWEST, HIGHEST = ([BOX[i][end] for i in range(21)] for end in (0, 1))
 
 

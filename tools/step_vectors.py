@@ -40,6 +40,7 @@ from fractions import Fraction
 from types import SimpleNamespace
 
 import floats
+import rules
 from floats import F32, F64, NAN
 from vectors import Lines, below, between, either, seeded
 
@@ -165,16 +166,8 @@ def around(*ends):
 ZERO, ONE = single(0), single(1)
 S_MIN, S_MAX, D_MIN, D_MAX = single("0.0001"), single(36500), single(1), single(10)
 DAY_MAX = single(100000)
-DEFAULT = [single(text) for text in """
-    0.212 1.2931 2.3065 8.2956 6.4133 0.8334 3.0194 0.001 1.8722 0.1666 0.796
-    1.4835 0.0614 0.2629 1.6483 0.6014 1.8729 0.5425 0.0912 0.0658 0.1542""".split()]
-BOX = {}
-for low, high, places in (
-    ("0.0001", "36500", (0, 1, 2, 3)), ("0", "20", (4,)), ("0", "4", (5,)), ("0", "6", (6,)),
-    ("0", "1", (7, 9, 12, 13, 15, 19)), ("-5", "5", (8,)), ("0", "5", (10, 14)), ("0.001", "10", (11,)),
-    ("1", "10", (16,)), ("0", "3", (17, 18)), ("0.1", "1", (20,)),
-):
-    BOX.update((i, (single(low), single(high))) for i in places)
+DEFAULT = [single(text) for text in rules.FSRS6_DEFAULT_PARAMETERS]
+BOX = {i: (single(low), single(high)) for i, (low, high) in rules.BOX.items()}
 
 
 # ---- analytic_v6.rs
