@@ -3,11 +3,11 @@ use Prim.Native.Nat.{ℕ}
 use mathlib.Core.Bool.{Bool, true, _&&_, _||_, cond}
 use mathlib.Core.List.{List}
 use lib.Dec.{eqb}
-use lib.Ieee.{Float, neg, eq}
+use lib.Ieee.{Float, eq}
 use lib.Ieee.Scale.{finite}
 use lib.ListN.{length}
-use Rattle.domain.specs.Floats.{within}
-use Rattle.domain.specs.Limits.{zero32, one, two, three, four, DAY_MAX}
+use Rattle.branches.specs.Doubles.{zero64}
+use Rattle.domain.specs.Limits.{zero32, one, two, three, four, dayGood}
 use Rattle.weights.specs.Weights.{weightsRefusal}
 use Rattle.branches.specs.Params.{paramsDef}
 use Rattle.forward.specs.Step.{isFirst, stepDef}
@@ -15,7 +15,6 @@ use Rattle.branches.specs.declared.stability.Branch.the-variants.{Padding}
 use Rattle.branches.specs.declared.stability.State.{State}
 use Rattle.forward.specs.declared.step.StepRecord.{StepRecord}
 use Rattle.forward.specs.declared.step.Stepped.{Stepped}
-use Rattle.slots.specs.Slots.{zero64}
 use Rattle.backward.specs.Step.{stepGrad, stepMoved}
 use Rattle.analytic_v6.specs.declared.step.TrainingStep.{TrainingStep}
 use Rattle.analytic_v6.specs.declared.step.TrainingReverse.{TrainingReverse}
@@ -35,7 +34,7 @@ unfoldable pub stepRefusal : List Float → (slots : Bool) (q : State) (day rati
 stepRefusal w slots q day rating row =
     cond (eqb (weightsRefusal w) 0)
     (cond slots
-    (cond (finiteState q) (cond (isRating rating) (cond (isUnread rating row (q .s) || within day (neg DAY_MAX) DAY_MAX) 0 7) 6) 13)
+    (cond (finiteState q) (cond (isRating rating) (cond (isUnread rating row (q .s) || dayGood day) 0 7) 6) 13)
     5)
     (weightsRefusal w)
 

@@ -7,6 +7,7 @@ use lib.Dec.{T, eqb}
 use lib.Ieee.{Float, eq, ne, nan}
 use lib.Seq.{getD-set-other}
 use borrow.Author.Tests.{eqb-false}
+use Rattle.branches.specs.Doubles.{zero64}
 use Rattle.domain.specs.Limits.{two, four}
 use Rattle.weights.specs.Weights.{_!_}
 use Rattle.branches.specs.Params.{initDifficulty}
@@ -19,7 +20,7 @@ use Rattle.forward.specs.declared.step.StepRecord.{StepRecord}
 use Rattle.slots.specs.Curve.{curveSlots}
 use Rattle.slots.specs.Difficulty.{meanGrad, partsOf, difficultySlots, difficultyMoved, initSlots, initMoved}
 use Rattle.backward.specs.Moves.{slotsOf, mayMove}
-use Rattle.slots.specs.Slots.{zero64, bump, bumpIf}
+use Rattle.slots.specs.Slots.{bump, bumpIf}
 use Rattle.gradients.specs.Stability.{shortSlots, shortMoved, floorSlots, lapseSlots, failureMoved, successSlots, successMoved}
 use Rattle.backward.specs.Step.{carried, firstFlow, flowDef, preGrad, firstMoved, shortAll, lapseAll, successAll, flowMoved, stepMoved}
 use Rattle.slots.specs.declared.difficulty.DifficultyParts.{DifficultyParts}

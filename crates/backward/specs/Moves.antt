@@ -4,11 +4,11 @@ use mathlib.Core.Bool.{Bool, not, _&&_, _||_, cond}
 use mathlib.Core.List.{List, [], _∷_}
 use lib.Dec.{eqb}
 use lib.Ieee.{Float, eq}
+use Rattle.branches.specs.Doubles.{zero64}
 use Rattle.forward.specs.Reads.{among, firstWeights, common, successWeights}
 use Rattle.branches.specs.declared.stability.Branch.{Branch}
 use Rattle.branches.specs.declared.stability.Branch.the-variants.{Padding, First, SameDay, Lapse, Success}
 use Rattle.forward.specs.declared.step.StepRecord.{StepRecord}
-use Rattle.slots.specs.Slots.{zero64}
 
 -- 'padding: none'; 'first: the same'; '4-7, 20' and '17-19, if the raw multiplier counts', '11-14, or 17, 18 if floored', or those of the success
 unfoldable pub slotsOf : (branch : Branch) (rating : Float) → List ℕ

@@ -3,10 +3,11 @@ use Prim.Native.Nat.{ℕ}
 use mathlib.Core.Bool.{Bool}
 use mathlib.Core.List.{List}
 use lib.Ieee.{Float}
-use Rattle.domain.specs.Floats.{_+ᶠ_, _*ᶠ_, _/ᶠ_, maxDef}
-use Rattle.domain.specs.Limits.{zero32, one, S_MIN, S_MAX, D_MIN, D_MAX}
+use Rattle.domain.specs.Floats.{maxDef}
+use Rattle.domain.specs.Limits.{zero32, S_MIN, S_MAX, D_MIN, D_MAX}
 use Rattle.weights.specs.Weights.{_!_}
-use Rattle.branches.specs.Single.{_+ᵈ_, _*ᵈ_}
+use Rattle.branches.specs.Doubles.{_+ᵈ_, _*ᵈ_, zero64}
+use Rattle.branches.specs.Curve.{baseDef}
 use Rattle.branches.specs.declared.curve.CurveCache.{CurveCache}
 use Rattle.branches.specs.declared.params.RuntimeParams.{RuntimeParams}
 use Rattle.branches.specs.declared.stability.Branch.{Branch}
@@ -14,7 +15,7 @@ use Rattle.branches.specs.declared.stability.Branch.the-variants.{Padding, Firs
 use Rattle.forward.specs.declared.step.StepRecord.{StepRecord}
 use Rattle.slots.specs.Curve.{curveBack, curveSlots}
 use Rattle.slots.specs.Difficulty.{difficultyBack, difficultyMoved, initMoved}
-use Rattle.slots.specs.Slots.{zero64, clampGrad}
+use Rattle.slots.specs.Slots.{clampGrad}
 use Rattle.gradients.specs.Stability.{shortBack, shortMoved, failureBack, failureMoved, successBack, successMoved}
 use Rattle.gradients.specs.declared.stability.Grads.{Grads}
 use Rattle.backward.specs.declared.step.StateGrad.{StateGrad}
@@ -78,13 +79,12 @@ flowMoved p c Success g-s g-d gw = successAll p c g-s g-d gw
 -- the step's curve as it was
 unfoldable pub recordCurve : (decay factor : Float) (c : StepRecord) → CurveCache
 recordCurve decay factor c =
-    let t = maxDef (c .day) zero32 in
     record {
-      t = t;
+      t = maxDef (c .day) zero32;
       s = c .last .s;
       decay = decay;
       factor = factor;
-      base = t /ᶠ c .last .s *ᶠ factor +ᶠ one;
+      base = baseDef factor (c .day) (c .last .s);
       retrievability = c .retrievability;
     }
 

@@ -1,12 +1,7 @@
 -- The patterns of the decimals that the code writes. Each is computed. Assumes nothing.
 use mathlib.Core.Path.{_≡_, refl}
-use lib.Ieee.{binary32, binary64, ofBits, round}
-use Rattle.domain.specs.Limits.{decimal}
+use lib.Ieee.{binary64, ofBits, round}
 use Rattle.branches.specs.Params.{nine-tenths}
-
-pub nine-tenths-single : decimal 9 10 ≡ ofBits binary32 0x3f66_6666
-unfolding decimal ofBits
-nine-tenths-single = refl
 
 pub nine-tenths-double : nine-tenths ≡ ofBits binary64 0x3fec_cccc_cccc_cccd
 unfolding nine-tenths round ofBits

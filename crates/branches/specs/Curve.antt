@@ -2,7 +2,7 @@
 use lib.Ieee.{Float}
 use Rattle.domain.specs.Floats.{_+ᶠ_, _*ᶠ_, _/ᶠ_, maxDef}
 use Rattle.domain.specs.Limits.{zero32, one}
-use Rattle.branches.specs.Single.{pow32}
+use Rattle.kernels.specs.Calls.{pow32}
 use Rattle.branches.specs.declared.curve.CurveCache.{CurveCache}
 
 -- t / s * factor + 1.0, for t = t.max(0.0)

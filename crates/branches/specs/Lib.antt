@@ -1,4 +1,4 @@
 pub mod Curve
+pub mod Doubles
 pub mod Params
-pub mod Single
 pub mod Stability

@@ -2,11 +2,12 @@
 use Prim.Native.Nat.{ℕ}
 use mathlib.Core.Bool.{false}
 use mathlib.Core.List.{List}
-use lib.Ieee.{Float, binary64, neg, ofBits, round}
+use lib.Ieee.{Float, binary64, neg, round}
 use Rattle.domain.specs.Floats.{_+ᶠ_, _-ᶠ_, _*ᶠ_, _/ᶠ_}
 use Rattle.domain.specs.Limits.{decimal, one, ratingOffset}
 use Rattle.weights.specs.Weights.{_!_}
-use Rattle.branches.specs.Single.{exp32, ln32, exp64, ln64, _*ᵈ_, _/ᵈ_}
+use Rattle.kernels.specs.Calls.{exp32, ln32, exp64, ln64}
+use Rattle.branches.specs.Doubles.{_*ᵈ_, _/ᵈ_, three64}
 use Rattle.branches.specs.declared.params.RuntimeParams.{RuntimeParams}
 
 -- ((0.9f32.ln()) / curve_decay).exp() - 1.0
@@ -24,9 +25,6 @@ curveSlope decay = let c = ln64 nine-tenths in exp64 (c /ᵈ decay) *ᵈ (neg c 
 -- w[4] - (w[5] * offset).exp() + 1.0, for offset = rating.saturating_sub(1) as f32
 unfoldable pub initDifficulty : (w4 w5 : Float) (rating : ℕ) → Float
 initDifficulty w4 w5 rating = w4 -ᶠ exp32 (w5 *ᶠ ratingOffset rating) +ᶠ one
-
-abbrev pub three64 : Float
-three64 = ofBits binary64 0x4008_0000_0000_0000
 
 unfoldable pub paramsDef : List Float → RuntimeParams
 paramsDef w =

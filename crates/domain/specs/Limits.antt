@@ -1,9 +1,10 @@
 -- Numbers as singles: decimals, the whole numbers that the formulas write, and the ends of the domain. Assumes nothing.
 use Prim.Native.Nat.{ℕ, _-_}
-use mathlib.Core.Bool.{false}
+use mathlib.Core.Bool.{Bool, false}
 use mathlib.Core.Path.{_≡_, refl}
 use lib.IntN.{pos}
-use lib.Ieee.{Float, binary32, ofBits, ofInt, round}
+use lib.Ieee.{Float, binary32, ofBits, ofInt, round, neg}
+use Rattle.domain.specs.Floats.{within}
 
 -- the single nearest to n / d, which is what a decimal stands for
 unfoldable pub decimal : (n d : ℕ) → Float
@@ -64,3 +65,13 @@ D_MAX = ten
 -- document 01: days -100000..100000
 unfoldable pub DAY_MAX : Float
 DAY_MAX = decimal 100000 1
+
+-- the ranges of document 01: both ends belong, and no NaN is within
+abbrev pub dayGood : Float → Bool
+dayGood t = within t (neg DAY_MAX) DAY_MAX
+
+abbrev pub stabilityGood : Float → Bool
+stabilityGood s = within s S_MIN S_MAX
+
+abbrev pub difficultyGood : Float → Bool
+difficultyGood d = within d D_MIN D_MAX

@@ -1,9 +1,8 @@
 // The numbers of the domain: `simulation.rs`'s ends of stability and difficulty, and document 01's days.
 ghost use mathlib.Core.Path.{_≡_};
 ghost use Prim.Native.Nat.{_-_};
-ghost use lib.Ieee.{neg};
-ghost use Rattle.domain.specs.Floats.{clampDef, maxDef, within};
-ghost use Rattle.domain.specs.Limits.{zero32, S_MIN, S_MAX, D_MIN, D_MAX, DAY_MAX, ratingOffset};
+ghost use Rattle.domain.specs.Floats.{clampDef, maxDef};
+ghost use Rattle.domain.specs.Limits.{zero32, S_MIN, S_MAX, D_MIN, D_MAX, ratingOffset, dayGood, stabilityGood, difficultyGood};
 use crate::floats::clamp;
 use crate::floats::is_within;
 use crate::floats::max;
@@ -59,19 +58,19 @@ pub fn clamp_difficulty(d: f32) -> f32
 }
 
 pub fn is_stability(s: f32) -> bool
-    ensures { λ r. ⌜ r ≡ within s S_MIN S_MAX ⌝ }
+    ensures { λ r. ⌜ r ≡ stabilityGood s ⌝ }
 {
     is_within(s, S_MIN, S_MAX)
 }
 
 pub fn is_difficulty(d: f32) -> bool
-    ensures { λ r. ⌜ r ≡ within d D_MIN D_MAX ⌝ }
+    ensures { λ r. ⌜ r ≡ difficultyGood d ⌝ }
 {
     is_within(d, D_MIN, D_MAX)
 }
 
 pub fn is_day(t: f32) -> bool
-    ensures { λ r. ⌜ r ≡ within t (neg DAY_MAX) DAY_MAX ⌝ }
+    ensures { λ r. ⌜ r ≡ dayGood t ⌝ }
 {
     is_within(t, -DAY_MAX, DAY_MAX)
 }

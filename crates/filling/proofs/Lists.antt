@@ -8,7 +8,7 @@ use lib.Ieee.{Float, binary32}
 use lib.ListN.{length, replicate, set, length-set}
 use lib.Seq.{set-append-left}
 use Rattle.soft.specs.Fma.{fmaDef}
-use Rattle.kernels.specs.Kernels.{lnDef}
+use Rattle.kernels.specs.Calls.{ln32}
 use Rattle.domain.specs.Floats.{_+ᶠ_, _/ᶠ_}
 use Rattle.domain.specs.Limits.{zero32, half, one, two, three}
 use Rattle.weights.specs.Weights.{_!_, copyDef}
@@ -34,7 +34,7 @@ pub stores-17 :
     (set
     (set (copyDef p) 4 (fmaDef binary32 (p ! 5) two (p ! 4)))
     5
-    (lnDef binary32 (fmaDef binary32 (p ! 5) three one) /ᶠ three))
+    (ln32 (fmaDef binary32 (p ! 5) three one) /ᶠ three))
     6
     (p ! 6 +ᶠ half))
     20
@@ -43,7 +43,7 @@ pub stores-17 :
 unfolding fill17
 stores-17 p l =
     let w4 = fmaDef binary32 (p ! 5) two (p ! 4) in
-    let w5 = lnDef binary32 (fmaDef binary32 (p ! 5) three one) /ᶠ three in
+    let w5 = ln32 (fmaDef binary32 (p ! 5) three one) /ᶠ three in
     let z = replicate (21 - length p) zero32 in
     rw (
       copy-short p (omega arith),

@@ -6,7 +6,7 @@ use lib.Dec.{eqb}
 use lib.Ieee.{Float, binary32}
 use lib.ListN.{length, replicate, set}
 use Rattle.soft.specs.Fma.{fmaDef}
-use Rattle.kernels.specs.Kernels.{lnDef}
+use Rattle.kernels.specs.Calls.{ln32}
 use Rattle.domain.specs.Floats.{_+ᶠ_, _/ᶠ_}
 use Rattle.domain.specs.Limits.{zero32, half, one, two, three}
 use Rattle.weights.specs.Weights.{_!_, FSRS6_DEFAULT_PARAMETERS, boxed, allFinite}
@@ -19,7 +19,7 @@ FSRS5_DEFAULT_DECAY = half
 unfoldable pub fill17 : List Float → List Float
 fill17 p =
     let w4 = fmaDef binary32 (p ! 5) two (p ! 4) in
-    let w5 = lnDef binary32 (fmaDef binary32 (p ! 5) three one) /ᶠ three in
+    let w5 = ln32 (fmaDef binary32 (p ! 5) three one) /ᶠ three in
     let w6 = p ! 6 +ᶠ half in
     set (set (set p 4 w4) 5 w5) 6 w6 ++ (zero32 ∷ zero32 ∷ zero32 ∷ FSRS5_DEFAULT_DECAY ∷ [])
 

@@ -3,14 +3,6 @@ use mathlib.Core.Path.{_≡_, refl}
 use lib.Ieee.{binary32, ofBits}
 use Rattle.domain.specs.Limits.{decimal}
 
-pub nine-tenths : decimal 9 10 ≡ ofBits binary32 0x3f66_6666
-unfolding decimal ofBits
-nine-tenths = refl
-
-pub least-retention : decimal 1 10000 ≡ ofBits binary32 0x38d1_b717
-unfolding decimal ofBits
-least-retention = refl
-
 pub greatest-retention : decimal 9999 10000 ≡ ofBits binary32 0x3f7f_f972
 unfolding decimal ofBits
 greatest-retention = refl

@@ -7,16 +7,10 @@ use lib.IntN.{pos}
 use lib.Ieee.{Float, binary32, neg, ofInt}
 use Rattle.soft.specs.Fma.{fmaDef}
 use Rattle.soft.specs.HalfAway.{roundDef}
-use Rattle.kernels.specs.Kernels.{expDef, powDef}
+use Rattle.kernels.specs.Calls.{exp32, pow32}
 use Rattle.domain.specs.Floats.{_+ᶠ_, _-ᶠ_, _*ᶠ_, _/ᶠ_, clampDef, maxDef, minDef}
 use Rattle.domain.specs.Limits.{decimal, zero32, one, three, nine, ten, eleven, ratingOffset, S_MIN, S_MAX, D_MIN, D_MAX}
 use Rattle.weights.specs.Weights.{_!_}
-
-abbrev pub exp : Float → Float
-exp x = expDef binary32 x
-
-abbrev pub powf : Float → Float → Float
-powf x y = powDef binary32 x y
 
 -- x.mul_add(a, b)
 abbrev pub mul-add : (x a b : Float) → Float
@@ -28,7 +22,7 @@ as-f32 n = ofInt binary32 (pos n)
 
 -- 0.9f32.powf(1.0 / decay) - 1.0
 unfoldable pub factorDef : (decay : Float) → Float
-factorDef decay = powf (decimal 9 10) (one /ᶠ decay) -ᶠ one
+factorDef decay = pow32 (decimal 9 10) (one /ᶠ decay) -ᶠ one
 
 -- t.max(0.0).round()
 unfoldable pub daysDef : (t : Float) → Float
@@ -36,14 +30,14 @@ daysDef t = roundDef binary32 (maxDef t zero32)
 
 -- power_forgetting_curve_scalar
 unfoldable pub curveDef : (w : List Float) (t s : Float) → Float
-curveDef w t s = powf (mul-add (daysDef t /ᶠ maxDef s S_MIN) (factorDef (neg (w ! 20))) one) (neg (w ! 20))
+curveDef w t s = pow32 (mul-add (daysDef t /ᶠ maxDef s S_MIN) (factorDef (neg (w ! 20))) one) (neg (w ! 20))
 
 -- next_interval_scalar
 unfoldable pub intervalDef : (w : List Float) (stability desired : Float) → Float
 intervalDef w stability desired =
     clampDef
     (maxDef stability S_MIN /ᶠ factorDef (neg (w ! 20)) *ᶠ
-    (powf (clampDef desired (decimal 1 10000) (decimal 9999 10000)) (one /ᶠ neg (w ! 20)) -ᶠ one))
+    (pow32 (clampDef desired (decimal 1 10000) (decimal 9999 10000)) (one /ᶠ neg (w ! 20)) -ᶠ one))
     zero32
     S_MAX
 
@@ -54,16 +48,16 @@ successDef w s r d rating =
     let easy-bonus = cond (eqb rating 4) (w ! 16) one in
     clampDef
     (s *ᶠ
-    (exp (w ! 8) *ᶠ (eleven -ᶠ d) *ᶠ powf s (neg (w ! 9)) *ᶠ (exp ((one -ᶠ r) *ᶠ w ! 10) -ᶠ one) *ᶠ hard-penalty *ᶠ easy-bonus +ᶠ one))
+    (exp32 (w ! 8) *ᶠ (eleven -ᶠ d) *ᶠ pow32 s (neg (w ! 9)) *ᶠ (exp32 ((one -ᶠ r) *ᶠ w ! 10) -ᶠ one) *ᶠ hard-penalty *ᶠ easy-bonus +ᶠ one))
     S_MIN
     S_MAX
 
 -- stability_after_failure_scalar: its `new_s_min`, its `new_s`, and the lesser of the two
 unfoldable pub lapseFloor : (w : List Float) (s : Float) → Float
-lapseFloor w s = s /ᶠ exp (w ! 17 *ᶠ w ! 18)
+lapseFloor w s = s /ᶠ exp32 (w ! 17 *ᶠ w ! 18)
 
 unfoldable pub lapseRaw : (w : List Float) (s r d : Float) → Float
-lapseRaw w s r d = w ! 11 *ᶠ powf d (neg (w ! 12)) *ᶠ (powf (s +ᶠ one) (w ! 13) -ᶠ one) *ᶠ exp ((one -ᶠ r) *ᶠ w ! 14)
+lapseRaw w s r d = w ! 11 *ᶠ pow32 d (neg (w ! 12)) *ᶠ (pow32 (s +ᶠ one) (w ! 13) -ᶠ one) *ᶠ exp32 ((one -ᶠ r) *ᶠ w ! 14)
 
 unfoldable pub failureDef : (w : List Float) (s r d : Float) → Float
 failureDef w s r d = clampDef (minDef (lapseRaw w s r d) (lapseFloor w s)) S_MIN S_MAX
@@ -75,12 +69,12 @@ increaseDef rating sinc = cond (leb 2 rating) (maxDef sinc one) sinc
 -- stability_short_term_scalar
 unfoldable pub shortTermDef : (w : List Float) (s : Float) (rating : ℕ) → Float
 shortTermDef w s rating =
-    let sinc = exp (w ! 17 *ᶠ (as-f32 rating -ᶠ three +ᶠ w ! 18)) *ᶠ powf s (neg (w ! 19)) in
+    let sinc = exp32 (w ! 17 *ᶠ (as-f32 rating -ᶠ three +ᶠ w ! 18)) *ᶠ pow32 s (neg (w ! 19)) in
     clampDef (s *ᶠ increaseDef rating sinc) S_MIN S_MAX
 
 -- init_difficulty_scalar
 unfoldable pub initDifficultyDef : (w : List Float) (rating : ℕ) → Float
-initDifficultyDef w rating = w ! 4 -ᶠ exp (w ! 5 *ᶠ ratingOffset rating) +ᶠ one
+initDifficultyDef w rating = w ! 4 -ᶠ exp32 (w ! 5 *ᶠ ratingOffset rating) +ᶠ one
 
 -- mean_reversion_scalar
 unfoldable pub meanReversionDef : (w : List Float) (init current : Float) → Float

@@ -1,14 +1,15 @@
 -- backward_short, backward_failure and backward_success of analytic_v6.rs. Each takes the weights that its branch reads and adds to the slots that it may move, in the text's order. Assumes nothing.
 use mathlib.Core.Bool.{Bool, cond}
 use mathlib.Core.List.{List}
-use lib.Ieee.{Float, binary64, neg, eq, ofBits}
+use lib.Ieee.{Float, neg, eq}
 use Rattle.domain.specs.Floats.{_+ᶠ_, _-ᶠ_}
 use Rattle.domain.specs.Limits.{one, two, three, four}
 use Rattle.weights.specs.Weights.{_!_}
-use Rattle.branches.specs.Single.{exp64, ln64, pow64, _+ᵈ_, _-ᵈ_, _*ᵈ_, _/ᵈ_}
+use Rattle.kernels.specs.Calls.{exp64, ln64, pow64}
+use Rattle.branches.specs.Doubles.{_+ᵈ_, _-ᵈ_, _*ᵈ_, _/ᵈ_, zero64, one64, eleven64}
 use Rattle.branches.specs.declared.params.RuntimeParams.{RuntimeParams}
 use Rattle.branches.specs.declared.stability.State.{State}
-use Rattle.slots.specs.Slots.{zero64, one64, bump, bumpIf}
+use Rattle.slots.specs.Slots.{bump, bumpIf}
 use Rattle.gradients.specs.declared.stability.Grads.{Grads}
 use Rattle.gradients.specs.declared.stability.LapseParts.{LapseParts}
 use Rattle.gradients.specs.declared.stability.SuccessParts.{SuccessParts}
@@ -83,9 +84,6 @@ failureBack p last r raw floor floored g =
 unfoldable pub failureMoved : (p : RuntimeParams) (last : State) (r raw floor : Float) (floored : Bool) (g : Float) (gw : List Float) → List Float
 failureMoved p last r raw floor floored g gw =
     cond (eq g zero64) gw (cond floored (floorSlots (p .w ! 17) (p .w ! 18) floor g gw) (lapseSlots (lapseOf p last r raw) g gw))
-
-abbrev pub eleven64 : Float
-eleven64 = ofBits binary64 0x4026_0000_0000_0000
 
 -- backward_success: hp and eb are 1 unless the rating is 2 or 4
 unfoldable pub successParts : (a w9 w10 hp eb : Float) (last : State) (r g : Float) → SuccessParts

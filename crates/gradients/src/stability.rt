@@ -1,7 +1,7 @@
 // The reverse of the three ways in which a review moves the stability.
 ghost use mathlib.Core.Path.{_≡_};
 ghost use Rattle.gradients.specs.Stability.{noGrads, shortSlots, shortGrad, shortBack, shortMoved, floorGrads, floorSlots, lapseParts, lapseSlots, lapseGrads, failureBack, failureMoved, successParts, successSlots, successGrads, successBack, successMoved};
-ghost use Rattle.branches.specs.Single.{_*ᵈ_};
+ghost use Rattle.branches.specs.Doubles.{_*ᵈ_};
 use branches::params::RuntimeParams;
 use branches::stability::State;
 use domain::floats::choose;

@@ -3,10 +3,10 @@ use Prim.Native.Nat.{ℕ}
 use mathlib.Core.Bool.{Bool, _&&_, cond}
 use mathlib.Core.List.{List}
 use lib.Dec.{eqb, leb}
-use lib.Ieee.{Float, neg}
+use lib.Ieee.{Float}
 use lib.Ieee.Scale.{finite}
 use Rattle.domain.specs.Floats.{within}
-use Rattle.domain.specs.Limits.{zero32, one, S_MIN, S_MAX, D_MIN, D_MAX, DAY_MAX}
+use Rattle.domain.specs.Limits.{zero32, one, dayGood, stabilityGood, difficultyGood}
 use Rattle.weights.specs.Weights.{weightsRefusal}
 use Rattle.model_v6.specs.declared.answer.Scalar.{Scalar}
 
@@ -24,16 +24,7 @@ accepted x = record { refusal = 0; value = x }
 unfoldable pub scalarDef : List Float → (good : Bool) → Float → Scalar
 scalarDef w good x = cond (eqb (scalarRefusal w good) 0) (accepted x) (refused (scalarRefusal w good))
 
--- document 01's row 13: 'a day outside -100000..100000', stability, difficulty and retrievability outside their ranges, 'rating outside 1-4'
-abbrev pub dayGood : Float → Bool
-dayGood t = within t (neg DAY_MAX) DAY_MAX
-
-abbrev pub stabilityGood : Float → Bool
-stabilityGood s = within s S_MIN S_MAX
-
-abbrev pub difficultyGood : Float → Bool
-difficultyGood d = within d D_MIN D_MAX
-
+-- document 01's row 13: days, stability and difficulty in domain's ranges, retrievability, 'rating outside 1-4'
 abbrev pub retrievabilityGood : Float → Bool
 retrievabilityGood r = within r zero32 one
 

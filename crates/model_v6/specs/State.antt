@@ -5,9 +5,9 @@ use mathlib.Core.List.{List}
 use lib.Dec.{eqb}
 use lib.Ieee.{Float}
 use lib.Ieee.Scale.{finite}
-use Rattle.domain.specs.Limits.{zero32}
+use Rattle.domain.specs.Limits.{zero32, dayGood}
 use Rattle.formulas.specs.declared.state.MemoryState.{MemoryState}
-use Rattle.model_v6.specs.Answers.{scalarRefusal, dayGood}
+use Rattle.model_v6.specs.Answers.{scalarRefusal}
 use Rattle.model_v6.specs.declared.state.NextState.{NextState}
 
 abbrev pub finiteState : MemoryState → Bool

@@ -2,21 +2,16 @@
 use Prim.Native.Nat.{ℕ, _-_}
 use mathlib.Core.Bool.{cond}
 use mathlib.Core.List.{List}
-use lib.Ieee.{Float, binary64, neg, eq, ne, ofBits}
+use lib.Ieee.{Float, neg, eq, ne}
 use Rattle.domain.specs.Floats.{_-ᶠ_}
 use Rattle.domain.specs.Limits.{three, ratingOffset, D_MIN, D_MAX}
 use Rattle.weights.specs.Weights.{_!_}
-use Rattle.branches.specs.Params.{initDifficulty, three64}
-use Rattle.branches.specs.Single.{exp64, _+ᵈ_, _-ᵈ_, _*ᵈ_, _/ᵈ_}
+use Rattle.branches.specs.Params.{initDifficulty}
+use Rattle.kernels.specs.Calls.{exp64}
+use Rattle.branches.specs.Doubles.{_+ᵈ_, _-ᵈ_, _*ᵈ_, _/ᵈ_, zero64, one64, three64, nine64, ten64}
 use Rattle.branches.specs.declared.params.RuntimeParams.{RuntimeParams}
-use Rattle.slots.specs.Slots.{zero64, one64, bump, clampGrad}
+use Rattle.slots.specs.Slots.{bump, clampGrad}
 use Rattle.slots.specs.declared.difficulty.DifficultyParts.{DifficultyParts}
-
-abbrev pub nine64 : Float
-nine64 = ofBits binary64 0x4022_0000_0000_0000
-
-abbrev pub ten64 : Float
-ten64 = ofBits binary64 0x4024_0000_0000_0000
 
 unfoldable pub difficultyParts : (w6 w7 d rating : Float) → DifficultyParts
 difficultyParts w6 w7 d rating =

@@ -2,16 +2,10 @@
 use Prim.Native.Nat.{ℕ}
 use mathlib.Core.Bool.{Bool, cond}
 use mathlib.Core.List.{List}
-use lib.Ieee.{Float, binary64, nan, ofBits}
+use lib.Ieee.{Float, nan}
 use lib.ListN.{getD, set}
 use Rattle.domain.specs.Floats.{within}
-use Rattle.branches.specs.Single.{_+ᵈ_}
-
-abbrev pub zero64 : Float
-zero64 = ofBits binary64 0
-
-abbrev pub one64 : Float
-one64 = ofBits binary64 0x3ff0_0000_0000_0000
+use Rattle.branches.specs.Doubles.{_+ᵈ_, zero64, one64}
 
 -- gw[i] += v; a slot that is not there stays so
 unfoldable pub bump : List Float → ℕ → Float → List Float

@@ -1,3 +1,4 @@
+use Rattle.branches.specs.Curve.{baseDef}
 use Rattle.backward.specs.Step.{recordCurve}
 use borrow.Author.Needs.{needs}
 use Rattle.backward.proofs.step.record_curve.Statement.{statement}
@@ -7,7 +8,7 @@ max-requires : tie.Need-max-requires
 max-requires c κs = search needs
 
 returns : tie.Need-returns
-unfolding recordCurve
+unfolding recordCurve baseDef
 returns c =
     rw (c .before .max .ensures)
 

@@ -1,4 +1,4 @@
-use Rattle.branches.proofs.Literals.{nine-tenths-single}
+use Rattle.domain.proofs.Literals.{nine-tenths}
 use Rattle.branches.specs.Params.{curveFactor}
 use borrow.Author.Needs.{needs}
 use Rattle.branches.proofs.params.curve_factor.Statement.{statement}
@@ -13,7 +13,7 @@ exp-f32-requires c κs = search needs
 returns : tie.Need-returns
 unfolding curveFactor
 returns c =
-    rw (nine-tenths-single, c .exp-f32 .ensures, c .before .ln-f32 .ensures)
+    rw (nine-tenths, c .exp-f32 .ensures, c .before .ln-f32 .ensures)
 
 pub curve-factor-spec : {M : Type 1} → statement M
 curve-factor-spec = tie.close (tie.spec ln-f32-requires exp-f32-requires returns)

@@ -1,4 +1,4 @@
-use Rattle.formulas.proofs.Literals.{nine-tenths}
+use Rattle.domain.proofs.Literals.{nine-tenths}
 use Rattle.formulas.specs.Formulas.{factorDef}
 use borrow.Author.Needs.{needs}
 use Rattle.formulas.proofs.curve.factor.Statement.{statement}

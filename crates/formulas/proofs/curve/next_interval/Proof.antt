@@ -1,4 +1,5 @@
-use Rattle.formulas.proofs.Literals.{least-retention, greatest-retention}
+use Rattle.domain.proofs.Literals.{ten-thousandth}
+use Rattle.formulas.proofs.Literals.{greatest-retention}
 use Rattle.formulas.specs.Formulas.{intervalDef}
 use borrow.Author.Needs.{needs}
 use Rattle.formulas.proofs.curve.next_interval.Statement.{statement}
@@ -26,7 +27,7 @@ returns : tie.Need-returns
 unfolding intervalDef
 returns c =
     rw (
-      least-retention,
+      ten-thousandth,
       greatest-retention,
       c .clamp-interval .ensures,
       c .before .pow-f32 .ensures,
