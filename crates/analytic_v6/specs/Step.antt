@@ -7,7 +7,8 @@ use lib.Ieee.{Float, eq}
 use lib.Ieee.Scale.{finite}
 use lib.ListN.{length}
 use Rattle.branches.specs.Doubles.{zero64}
-use Rattle.domain.specs.Limits.{zero32, one, two, three, four, dayGood}
+use Rattle.domain.specs.Limits.{zero32, dayGood}
+use Rattle.reads.specs.Reads.{ratingGood}
 use Rattle.weights.specs.Weights.{weightsRefusal}
 use Rattle.branches.specs.Params.{paramsDef}
 use Rattle.forward.specs.Step.{isFirst, stepDef}
@@ -18,10 +19,6 @@ use Rattle.forward.specs.declared.step.Stepped.{Stepped}
 use Rattle.backward.specs.Step.{stepGrad, stepMoved}
 use Rattle.analytic_v6.specs.declared.step.TrainingStep.{TrainingStep}
 use Rattle.analytic_v6.specs.declared.step.TrainingReverse.{TrainingReverse}
-
--- 'ratings equal to 0,1,2,3,4'
-abbrev pub isRating : Float → Bool
-isRating rating = (eq rating zero32 || (eq rating one || eq rating two)) || (eq rating three || eq rating four)
 
 -- 'its day goes unread in padding and in a first step'
 abbrev pub isUnread : (rating : Float) (row : ℕ) (s : Float) → Bool
@@ -34,7 +31,7 @@ unfoldable pub stepRefusal : List Float → (slots : Bool) (q : State) (day rati
 stepRefusal w slots q day rating row =
     cond (eqb (weightsRefusal w) 0)
     (cond slots
-    (cond (finiteState q) (cond (isRating rating) (cond (isUnread rating row (q .s) || dayGood day) 0 7) 6) 13)
+    (cond (finiteState q) (cond (ratingGood rating) (cond (isUnread rating row (q .s) || dayGood day) 0 7) 6) 13)
     5)
     (weightsRefusal w)
 

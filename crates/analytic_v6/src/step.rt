@@ -1,8 +1,8 @@
 // One training step, and its reverse.
 ghost use mathlib.Core.Path.{_≡_};
-ghost use mathlib.Core.Bool.{true, _||_};
+ghost use mathlib.Core.Bool.{true};
 ghost use lib.ListN.{length};
-ghost use Rattle.analytic_v6.specs.Step.{isRating, isUnread, finiteState, stepRefusal, blank, trainingStep, trainingReverse, reverseSlots};
+ghost use Rattle.analytic_v6.specs.Step.{isUnread, finiteState, stepRefusal, blank, trainingStep, trainingReverse, reverseSlots};
 use backward::step::StateGrad;
 use backward::step::step_backward;
 use branches::params::runtime_params;
@@ -13,6 +13,8 @@ use domain::limits::is_day;
 use forward::step::StepRecord;
 use forward::step::is_first;
 use forward::step::step_forward;
+use reads::either;
+use reads::is_rating;
 use weights::copy_weights;
 use weights::weights_refusal;
 
@@ -27,20 +29,6 @@ pub struct TrainingStep {
 pub struct TrainingReverse {
     pub refusal: u32,
     pub grad: StateGrad,
-}
-
-fn either(a: bool, b: bool) -> bool
-    ensures { λ r. ⌜ r ≡ (a || b) ⌝ }
-{
-    if a { true } else { b }
-}
-
-// 0, 1, 2, 3 or 4; a zero of either sign is zero.
-fn is_rating(rating: f32) -> bool
-    ensures { λ r. ⌜ r ≡ isRating rating ⌝ }
-{
-    let low = either(rating == 0.0, either(rating == 1.0, rating == 2.0));
-    either(low, either(rating == 3.0, rating == 4.0))
 }
 
 // The day goes unread in padding and in a first step.

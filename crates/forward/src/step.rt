@@ -41,7 +41,7 @@ pub fn clamp_state(q: State) -> State
 }
 
 // A rating of 1 to 4 as a whole number.
-fn rating_number(rating: f32) -> u32
+pub fn rating_number(rating: f32) -> u32
     ensures { λ r. ⌜ (r ≡ ratingNumber rating) × (0 < r) × (r < 5) ⌝ }
 {
     if rating == 1.0 {

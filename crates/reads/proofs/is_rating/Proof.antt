@@ -1,6 +1,6 @@
 use borrow.Author.Needs.{needs}
-use Rattle.analytic_v6.proofs.step.is_rating.Statement.{statement}
-use Rattle.analytic_v6.proofs.step.is_rating.Tie as tie
+use Rattle.reads.proofs.is_rating.Statement.{statement}
+use Rattle.reads.proofs.is_rating.Tie as tie
 
 either-requires : tie.Need-either-requires
 either-requires c κs = search needs

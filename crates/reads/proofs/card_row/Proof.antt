@@ -1,0 +1,50 @@
+use Rattle.reads.specs.Reads.{cardRow, cardRating}
+use borrow.Author.Needs.{needs}
+use Rattle.reads.proofs.card_row.Statement.{statement}
+use Rattle.reads.proofs.card_row.Tie as tie
+
+is-last-requires : tie.Need-is-last-requires
+is-last-requires c κs = search needs
+
+is-rating-requires : tie.Need-is-rating-requires
+is-rating-requires c κs = search needs
+
+check-requires : tie.Need-check-requires
+check-requires c κs = search needs
+
+card-day-requires : tie.Need-card-day-requires
+card-day-requires c κs = search needs
+
+is-day-requires : tie.Need-is-day-requires
+is-day-requires c κs = search needs
+
+check-requires-2 : tie.Need-check-requires-2
+check-requires-2 c κs = search needs
+
+card-score-requires : tie.Need-card-score-requires
+card-score-requires c κs = search needs
+
+first-requires : tie.Need-first-requires
+first-requires c κs = search needs
+
+first-requires-2 : tie.Need-first-requires-2
+first-requires-2 c κs = search needs
+
+returns : tie.Need-returns
+unfolding cardRow cardRating
+returns c = cc
+
+pub card-row-spec : {M : Type 1} → statement M
+card-row-spec =
+    tie.close
+    (tie.spec
+    is-last-requires
+    is-rating-requires
+    check-requires
+    card-day-requires
+    is-day-requires
+    check-requires-2
+    card-score-requires
+    first-requires
+    first-requires-2
+    returns)

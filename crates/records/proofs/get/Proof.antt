@@ -1,0 +1,15 @@
+use borrow.Author.Needs.{needs}
+use Rattle.records.proofs.get.Statement.{statement}
+use Rattle.records.proofs.get.Tie as tie
+
+place-of-requires : tie.Need-place-of-requires
+place-of-requires c κs = search needs
+
+read-requires : tie.Need-read-requires
+read-requires c κs = search needs
+
+returns : tie.Need-returns
+returns c = cc
+
+pub get-spec : {M : Type 1} → statement M
+get-spec = tie.close (tie.spec place-of-requires read-requires returns)

@@ -1,0 +1,18 @@
+use borrow.Author.Needs.{needs}
+use Rattle.records.proofs.put.Statement.{statement}
+use Rattle.records.proofs.put.Tie as tie
+
+place-of-requires : tie.Need-place-of-requires
+place-of-requires c κs = search needs
+
+write-requires : tie.Need-write-requires
+write-requires c κs = search needs
+
+same-length : tie.Need-same-length
+same-length c = search needs
+
+returns : tie.Need-returns
+returns c = cc
+
+pub put-spec : {M : Type 1} → statement M
+put-spec = tie.close (tie.spec place-of-requires write-requires same-length returns)

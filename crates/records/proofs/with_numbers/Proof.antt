@@ -1,0 +1,14 @@
+use Rattle.records.specs.Records.{chosenCells}
+use borrow.Author.Needs.{needs}
+use Rattle.records.proofs.with_numbers.Statement.{statement}
+use Rattle.records.proofs.with_numbers.Tie as tie
+
+choose-requires : tie.Need-choose-requires
+choose-requires c κs = search needs
+
+returns : tie.Need-returns
+unfolding chosenCells
+returns c = cc
+
+pub with-numbers-spec : {M : Type 1} → statement M
+with-numbers-spec = tie.close (tie.spec choose-requires returns)

@@ -1,0 +1,2 @@
+pub mod Default
+pub mod Fits

@@ -1,0 +1,21 @@
+use mathlib.Core.Path.{refl}
+use native.Mathlib.Nat.{lt-of-le-of-lt, le-add-right}
+use borrow.Author.Needs.{needs}
+use Rattle.tables.specs.Tables.{cell}
+use Rattle.tables.proofs.Fits.{cell-fits}
+use Rattle.tables.proofs.cell_of.Statement.{statement}
+use Rattle.tables.proofs.cell_of.Tie as tie
+
+mul-result : tie.Need-mul-result
+mul-result c =
+    record { fits = lt-of-le-of-lt (le-add-right _ _) (cell-fits (c .args .row) (c .args .columns) (c .args .column) (search needs) (search needs) (search needs)) }
+
+add-result : tie.Need-add-result
+add-result c = record { fits = cell-fits (c .args .row) (c .args .columns) (c .args .column) (search needs) (search needs) (search needs) }
+
+returns : tie.Need-returns
+unfolding cell
+returns c = refl
+
+pub cell-of-spec : {M : Type 1} → statement M
+cell-of-spec = tie.close (tie.spec mul-result add-result returns)
