@@ -11,9 +11,10 @@ use Rattle.weights.specs.Weights.{copyDef, weightsRefusal}
 use Rattle.weights.proofs.Accepted.{accepted-length}
 use Rattle.weights.proofs.Copy.{copy-whole}
 use Rattle.branches.specs.Params.{paramsDef}
+use Rattle.forward.specs.Step.{noState}
 use Rattle.branches.specs.declared.stability.State.{State}
 use Rattle.backward.specs.Step.{stepGrad, stepMoved}
-use Rattle.analytic_v6.specs.Step.{stepRefusal, noState, blank, stepped, trainingStep, noReverse, trainingReverse, reverseRefusal, reverseSlots}
+use Rattle.analytic_v6.specs.Step.{stepRefusal, blank, stepped, trainingStep, noReverse, trainingReverse, reverseRefusal, reverseSlots}
 
 no-weights : (m n : ℕ) (a : Bool) → a ≡ eqb m 0 → cond a n m ≡ 0 → m ≡ 0
 no-weights m n true e h = eqb-true _ _ (sym e)

@@ -11,7 +11,7 @@ use Rattle.domain.specs.Limits.{zero32, dayGood}
 use Rattle.reads.specs.Reads.{ratingGood}
 use Rattle.weights.specs.Weights.{weightsRefusal}
 use Rattle.branches.specs.Params.{paramsDef}
-use Rattle.forward.specs.Step.{isFirst, stepDef}
+use Rattle.forward.specs.Step.{noState, isFirst, stepDef}
 use Rattle.branches.specs.declared.stability.Branch.the-variants.{Padding}
 use Rattle.branches.specs.declared.stability.State.{State}
 use Rattle.forward.specs.declared.step.StepRecord.{StepRecord}
@@ -34,9 +34,6 @@ stepRefusal w slots q day rating row =
     (cond (finiteState q) (cond (ratingGood rating) (cond (isUnread rating row (q .s) || dayGood day) 0 7) 6) 13)
     5)
     (weightsRefusal w)
-
-unfoldable pub noState : State
-noState = record { s = zero32; d = zero32 }
 
 unfoldable pub blank : StepRecord
 unfolding noState

@@ -98,6 +98,7 @@ prefixes-blank x column =
     let t = x .table in
     pick-blank (eqb (lengthAt t column) 0) _ _ (nine column)
     (else-blank _ _ (prefix-blank (t .days) (t .ratings) (t .columns) column (lengthAt t column)) (at-blank _ column (lengthAt t column)))
+
 pub cards-blank : (x : Cards) (column : ℕ) → Blank (cardColumn x column)
 unfolding cardColumn
 cards-blank x column =

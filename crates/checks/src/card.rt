@@ -70,16 +70,7 @@ pub fn card_fault(
 {
     let mut c = 0;
     while c < batch {
-        let f = card_column(
-            t_hist,
-            r_hist,
-            seq_len,
-            batch,
-            seq_lens,
-            labels,
-            weights,
-            c,
-        );
+        let f = card_column(t_hist, r_hist, seq_len, batch, seq_lens, labels, weights, c);
         if f.refusal != 0 {
             return f;
         }

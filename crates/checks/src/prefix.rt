@@ -32,13 +32,7 @@ fn prefix_rows(t_hist: &[f32], r_hist: &[f32], batch: u32, column: u32, n: u32) 
     no_fault()
 }
 
-fn prefix_target(
-    delta_ts: &[f32],
-    labels: &[f32],
-    weights: &[f32],
-    column: u32,
-    n: u32,
-) -> Fault
+fn prefix_target(delta_ts: &[f32], labels: &[f32], weights: &[f32], column: u32, n: u32) -> Fault
     ensures { λ r. ⌜ r ≡ targetFault (now («delta_ts» .entry)) (now (labels .entry)) (now (weights .entry)) column n ⌝ }
 {
     let k = column as usize;

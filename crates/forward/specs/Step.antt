@@ -15,6 +15,10 @@ use Rattle.branches.specs.declared.stability.Move.{Move}
 use Rattle.branches.specs.declared.stability.State.{State}
 use Rattle.forward.specs.declared.step.Stepped.{Stepped}
 
+-- 'from (0,0)'
+unfoldable pub noState : State
+noState = record { s = zero32; d = zero32 }
+
 unfoldable pub clampState : State → State
 clampState q = record { s = clampDef (q .s) S_MIN S_MAX; d = clampDef (q .d) D_MIN D_MAX }
 

@@ -81,14 +81,20 @@ pub fn prefix_row(row: u32, day: f32, rating: f32) -> u32
     ensures { λ r. ⌜ r ≡ prefixRow row day rating ⌝ }
 {
     let day_read = both(is_later(row), is_nonzero(rating));
-    first(check(true, is_rating(rating), 6), check(day_read, is_day(day), 7))
+    first(
+        check(true, is_rating(rating), 6),
+        check(day_read, is_day(day), 7),
+    )
 }
 
 // The last row's day is read if its weight counts, and its rating never.
 fn card_day(n: u32, row: u32, rating: f32, weight: f32) -> bool
     ensures { λ r. ⌜ r ≡ cardDay n row rating weight ⌝ }
 {
-    both(is_later(row), pick(is_last(n, row), is_nonzero(weight), is_nonzero(rating)))
+    both(
+        is_later(row),
+        pick(is_last(n, row), is_nonzero(weight), is_nonzero(rating)),
+    )
 }
 
 fn card_score(row: u32, weight: f32, label: f32) -> u32
@@ -96,7 +102,10 @@ fn card_score(row: u32, weight: f32, label: f32) -> u32
 {
     let later = is_later(row);
     let label_read = both(later, is_nonzero(weight));
-    first(check(later, is_weight(weight), 8), check(label_read, is_label(label), 8))
+    first(
+        check(later, is_weight(weight), 8),
+        check(label_read, is_label(label), 8),
+    )
 }
 
 // 6, 7, 8 or 0, in a card of n rows.
@@ -113,6 +122,9 @@ pub fn target(weight: f32, label: f32, day: f32) -> u32
     ensures { λ r. ⌜ r ≡ targetDef weight label day ⌝ }
 {
     let counts = is_nonzero(weight);
-    let rest = first(check(counts, is_label(label), 8), check(counts, is_day(day), 7));
+    let rest = first(
+        check(counts, is_label(label), 8),
+        check(counts, is_day(day), 7),
+    );
     first(check(true, is_weight(weight), 8), rest)
 }

@@ -1,5 +1,5 @@
 use Rattle.analytic_v6.proofs.Entry.{copied, step-refused, step-accepted}
-use Rattle.analytic_v6.specs.Step.{noState}
+use Rattle.forward.specs.Step.{noState}
 use borrow.Author.Needs.{needs}
 use Rattle.analytic_v6.proofs.step.training_step.Statement.{statement}
 use Rattle.analytic_v6.proofs.step.training_step.Tie as tie

@@ -1,0 +1,87 @@
+-- One more row of a column, forward and backward. Assumes nothing.
+use Prim.Native.Nat.{ℕ, zero, suc, _+_, _-_, _<_}
+use mathlib.Core.List.{List}
+use mathlib.Core.Path.{_≡_, refl, sym, ap, _∙_}
+use native.Mathlib.Nat.{not-suc-le-zero, suc-ne-zero}
+use native.Mathlib.Numerals.{add-one}
+use native.Mathlib.Omega.{arith}
+use lib.Ieee.{Float}
+use lib.ListN.{set}
+use Rattle.weights.specs.Weights.{_!_}
+use Rattle.branches.specs.Doubles.{_+ᵈ_}
+use Rattle.branches.specs.declared.params.RuntimeParams.{RuntimeParams}
+use Rattle.branches.specs.declared.stability.State.{State}
+use Rattle.tables.specs.Tables.{cell}
+use Rattle.forward.specs.Step.{stepDef}
+use Rattle.forward.specs.declared.step.StepRecord.{StepRecord}
+use Rattle.forward.specs.declared.step.Stepped.{Stepped}
+use Rattle.records.specs.Records.{storeDef}
+use Rattle.scores.specs.declared.Score.{Score}
+use Rattle.backward.specs.Step.{stepGrad, stepMoved}
+use Rattle.backward.specs.declared.step.StateGrad.{StateGrad}
+use Rattle.passes.specs.Back.{backDef}
+use Rattle.passes.specs.Path.{rowScore, stepAt, stateAt, recordAt, storedDef, scoreAt, lossAt, gradsDef}
+
+module _ (p : RuntimeParams) (days ratings : List Float) (columns column : ℕ) where
+  here : (k : ℕ) (q : State) (n : Stepped) → q ≡ stateAt p days ratings columns column k →
+      n ≡ stepDef p q (days ! cell columns k column) (ratings ! cell columns k column) k →
+      n ≡ stepAt p days ratings columns column (stateAt p days ratings columns column k) k
+  unfolding stepAt
+  here k q n e h = h ∙ ap (λ (z : State). stepDef p z (days ! cell columns k column) (ratings ! cell columns k column) k) e
+
+  pub next-state : (k : ℕ) (q : State) (n : Stepped) → q ≡ stateAt p days ratings columns column k →
+      n ≡ stepDef p q (days ! cell columns k column) (ratings ! cell columns k column) k →
+      n .state ≡ stateAt p days ratings columns column (k + 1)
+  unfolding stateAt
+  next-state k q n e h = rw (add-one k) (ap (λ (x : Stepped). x .state) (here k q n e h))
+
+  pub next-record : (k : ℕ) (q : State) (n : Stepped) → q ≡ stateAt p days ratings columns column k →
+      n ≡ stepDef p q (days ! cell columns k column) (ratings ! cell columns k column) k →
+      n .step ≡ recordAt p days ratings columns column k
+  unfolding recordAt
+  next-record k q n e h = ap (λ (x : Stepped). x .step) (here k q n e h)
+
+  pub next-stored : (k : ℕ) (start xs : List Float) (c : StepRecord) → xs ≡ storedDef p days ratings columns column k start →
+      c ≡ recordAt p days ratings columns column k → storeDef k c xs ≡ storedDef p days ratings columns column (k + 1) start
+  unfolding storedDef
+  next-stored k start xs c e h = rw (add-one k, e, h)
+
+  module _ (labels weights : List Float) where
+    pub next-score : (k : ℕ) (c : StepRecord) (s : Score) → c ≡ recordAt p days ratings columns column k →
+        s ≡ rowScore k (c .retrievability) (labels ! cell columns k column) (weights ! cell columns k column) →
+        s ≡ scoreAt p days ratings columns column labels weights k
+    unfolding scoreAt
+    next-score k c s e h = h ∙ ap (λ (x : StepRecord). rowScore k (x .retrievability) (labels ! cell columns k column) (weights ! cell columns k column)) e
+
+    pub next-loss : (k : ℕ) (loss : Float) (s : Score) → loss ≡ lossAt p days ratings columns column labels weights k →
+        s ≡ scoreAt p days ratings columns column labels weights k →
+        loss +ᵈ s .loss ≡ lossAt p days ratings columns column labels weights (k + 1)
+    unfolding lossAt
+    next-loss k loss s e h = rw (add-one k, e, h)
+
+    pub next-grads : (k : ℕ) (start xs : List Float) (s : Score) → xs ≡ gradsDef p days ratings columns column labels weights k start →
+        s ≡ scoreAt p days ratings columns column labels weights k →
+        set xs k (s .«g_r») ≡ gradsDef p days ratings columns column labels weights (k + 1) start
+    unfolding gradsDef
+    next-grads k start xs s e h = rw (add-one k, e, h)
+
+module _ (p : RuntimeParams) (records : ℕ → StepRecord) (step-grads : ℕ → Float) where
+  pred : (i : ℕ) → suc i - 1 ≡ i
+  pred i = omega arith
+
+  step-back : (i : ℕ) (g : StateGrad) (gw : List Float) → 0 < i →
+      backDef p records step-grads (i - 1) (stepGrad p (records (i - 1)) (g .s) (g .d) (step-grads (i - 1))) (stepMoved p (records (i - 1)) (g .s) (g .d) (step-grads (i - 1)) gw) ≡
+      backDef p records step-grads i g gw
+  unfolding backDef
+  step-back zero g gw h = absurd (not-suc-le-zero h)
+  step-back (suc i) g gw h = rw (pred i)
+
+  pub back-turn : (i : ℕ) (g g′ : StateGrad) (gw gw′ whole : List Float) (c : StepRecord) (r : Float) → 0 < i → c ≡ records (i - 1) →
+      r ≡ step-grads (i - 1) → g′ ≡ stepGrad p c (g .s) (g .d) r → gw′ ≡ stepMoved p c (g .s) (g .d) r gw →
+      backDef p records step-grads i g gw ≡ whole → backDef p records step-grads (i - 1) g′ gw′ ≡ whole
+  back-turn i g g′ gw gw′ whole c r l ec er eg em e = rw (eg, em, ec, er) (step-back i g gw l ∙ e)
+
+  pub back-done : (i : ℕ) (g : StateGrad) (gw whole : List Float) → i ≡ 0 → backDef p records step-grads i g gw ≡ whole → gw ≡ whole
+  unfolding backDef
+  back-done zero g gw whole e h = h
+  back-done (suc i) g gw whole e h = absurd (suc-ne-zero i e)
