@@ -1,3 +1,4 @@
 pub mod First
 pub mod Longest
+pub mod Orders
 pub mod Rows

@@ -1,15 +1,19 @@
 // The cells that a prefix reads.
 ghost use mathlib.Core.Path.{_≡_};
 ghost use Rattle.tables.specs.Batch.{prefixesOf};
+ghost use Rattle.checks.specs.Refusals.{prefixLossRefusal, prefixGradRefusal};
 ghost use Rattle.checks.specs.Faults.{prefixRows, targetFault, prefixColumn, prefixFault};
 use crate::faults::Fault;
 use crate::faults::fault_at;
 use crate::faults::no_fault;
+use crate::sizes::longest;
+use crate::sizes::prefix_sized;
 use reads::prefix_row;
 use reads::target;
 use tables::cell_of;
 use tables::cut_length;
 use tables::read;
+use weights::weights_refusal;
 
 fn prefix_rows(t_hist: &[f32], r_hist: &[f32], batch: u32, column: u32, n: u32) -> Fault
     ensures { λ r. ⌜ r ≡ prefixRows (now («t_hist» .entry)) (now («r_hist» .entry)) batch column n ⌝ }
@@ -102,4 +106,101 @@ pub fn prefix_fault(
         c += 1;
     }
     no_fault()
+}
+
+// 1, 2, 3, then the first fault.
+pub fn prefix_loss_refusal(
+    w: &[f32],
+    t_hist: &[f32],
+    r_hist: &[f32],
+    seq_len: u32,
+    batch: u32,
+    seq_lens: &[u32],
+    delta_ts: &[f32],
+    labels: &[f32],
+    weights: &[f32],
+) -> u32
+    ensures { λ r. ⌜ r ≡ prefixLossRefusal (now (w .entry)) (prefixesOf (now («t_hist» .entry)) (now («r_hist» .entry)) «seq_len» batch (now («seq_lens» .entry)) (now («delta_ts» .entry)) (now (labels .entry)) (now (weights .entry))) ⌝ }
+{
+    let n = weights_refusal(w);
+    if n != 0 {
+        return n;
+    }
+    let sized = prefix_sized(
+        t_hist.len(),
+        r_hist.len(),
+        seq_len,
+        batch,
+        seq_lens.len(),
+        delta_ts.len(),
+        labels.len(),
+        weights.len(),
+    );
+    if !sized {
+        return 3;
+    }
+    let f = prefix_fault(
+        t_hist,
+        r_hist,
+        seq_len,
+        batch,
+        seq_lens,
+        delta_ts,
+        labels,
+        weights,
+    );
+    f.refusal
+}
+
+// 1, 2, 5, 3, 4, then the first fault. The last arguments count what is lent.
+pub fn prefix_grad_refusal(
+    w: &[f32],
+    t_hist: &[f32],
+    r_hist: &[f32],
+    seq_len: u32,
+    batch: u32,
+    seq_lens: &[u32],
+    delta_ts: &[f32],
+    labels: &[f32],
+    weights: &[f32],
+    slots: usize,
+    records: usize,
+) -> u32
+    ensures { λ r. ⌜ r ≡ prefixGradRefusal (now (w .entry)) (prefixesOf (now («t_hist» .entry)) (now («r_hist» .entry)) «seq_len» batch (now («seq_lens» .entry)) (now («delta_ts» .entry)) (now (labels .entry)) (now (weights .entry))) slots records ⌝ }
+{
+    let n = weights_refusal(w);
+    if n != 0 {
+        return n;
+    }
+    if slots != 21 {
+        return 5;
+    }
+    let sized = prefix_sized(
+        t_hist.len(),
+        r_hist.len(),
+        seq_len,
+        batch,
+        seq_lens.len(),
+        delta_ts.len(),
+        labels.len(),
+        weights.len(),
+    );
+    if !sized {
+        return 3;
+    }
+    let long = longest(seq_lens, seq_len, batch) as usize;
+    if !(long <= records) {
+        return 4;
+    }
+    let f = prefix_fault(
+        t_hist,
+        r_hist,
+        seq_len,
+        batch,
+        seq_lens,
+        delta_ts,
+        labels,
+        weights,
+    );
+    f.refusal
 }

@@ -1,0 +1,72 @@
+-- Which refusal comes of the tests, each in its turn. Assumes nothing.
+use Prim.Native.Nat.{ℕ}
+use mathlib.Core.Bool.{Bool, true, false}
+use mathlib.Core.List.{List}
+use mathlib.Core.Path.{_≡_, refl, sym, _∙_, subst}
+use borrow.Author.Tests.{eq-eqb, ne-eqb}
+use lib.Dec.{T, eqb}
+use lib.Ieee.{Float}
+use Rattle.reads.specs.Reads.{check, first}
+use Rattle.weights.specs.Weights.{weightsRefusal}
+use Rattle.checks.specs.Refusals.{lossRefusal, gradRefusal}
+
+first-some : (a b : ℕ) → (a ≡ 0 → ⊥) → first a b ≡ a
+unfolding first
+first-some a b h = rw (ne-eqb a 0 h)
+
+first-none : (a b : ℕ) → a ≡ 0 → first a b ≡ b
+unfolding first
+first-none a b e = rw (eq-eqb a 0 e)
+
+failed : (good : Bool) (n b : ℕ) → good ≡ false → (n ≡ 0 → ⊥) → first (check true good n) b ≡ n
+unfolding check
+failed good n b e h = rw e (first-some n b h)
+
+passed : (good : Bool) (n b : ℕ) → good ≡ true → first (check true good n) b ≡ b
+unfolding check
+passed good n b e = rw e (first-none 0 b refl)
+
+three : _≡_ {A = ℕ} 3 0 → ⊥
+three e = subst (λ (n : ℕ). T (eqb n 3)) e tt
+
+four : _≡_ {A = ℕ} 4 0 → ⊥
+four e = subst (λ (n : ℕ). T (eqb n 4)) e tt
+
+five : _≡_ {A = ℕ} 5 0 → ⊥
+five e = subst (λ (n : ℕ). T (eqb n 5)) e tt
+
+module _ (w : List Float) (n : ℕ) (weights : n ≡ weightsRefusal w) where
+  pub loss-weights : (sized : Bool) (fault : ℕ) → (n ≡ 0 → ⊥) → n ≡ lossRefusal w sized fault
+  unfolding lossRefusal
+  loss-weights sized fault h = rw (← weights) (sym (first-some n _ h))
+
+  pub grad-weights : (slots sized room : Bool) (fault : ℕ) → (n ≡ 0 → ⊥) → n ≡ gradRefusal w slots sized room fault
+  unfolding gradRefusal
+  grad-weights slots sized room fault h = rw (← weights) (sym (first-some n _ h))
+
+  module _ (z : n ≡ 0) where
+    pub loss-sizes : (sized : Bool) (fault : ℕ) → sized ≡ false → 3 ≡ lossRefusal w sized fault
+    unfolding lossRefusal
+    loss-sizes sized fault e = rw (← weights) (sym (first-none n _ z ∙ failed sized 3 fault e three))
+
+    pub loss-fault : (sized : Bool) (fault : ℕ) → sized ≡ true → fault ≡ lossRefusal w sized fault
+    unfolding lossRefusal
+    loss-fault sized fault e = rw (← weights) (sym (first-none n _ z ∙ passed sized 3 fault e))
+
+    pub grad-slots : (slots sized room : Bool) (fault : ℕ) → slots ≡ false → 5 ≡ gradRefusal w slots sized room fault
+    unfolding gradRefusal
+    grad-slots slots sized room fault e = rw (← weights) (sym (first-none n _ z ∙ failed slots 5 _ e five))
+
+    module _ (slots : Bool) (s : slots ≡ true) where
+      pub grad-sizes : (sized room : Bool) (fault : ℕ) → sized ≡ false → 3 ≡ gradRefusal w slots sized room fault
+      unfolding gradRefusal
+      grad-sizes sized room fault e = rw (← weights) (sym (first-none n _ z ∙ passed slots 5 _ s ∙ failed sized 3 _ e three))
+
+      module _ (sized : Bool) (t : sized ≡ true) where
+        pub grad-room : (room : Bool) (fault : ℕ) → room ≡ false → 4 ≡ gradRefusal w slots sized room fault
+        unfolding gradRefusal
+        grad-room room fault e = rw (← weights) (sym (first-none n _ z ∙ passed slots 5 _ s ∙ passed sized 3 _ t ∙ failed room 4 fault e four))
+
+        pub grad-fault : (room : Bool) (fault : ℕ) → room ≡ true → fault ≡ gradRefusal w slots sized room fault
+        unfolding gradRefusal
+        grad-fault room fault e = rw (← weights) (sym (first-none n _ z ∙ passed slots 5 _ s ∙ passed sized 3 _ t ∙ passed room 4 fault e))

@@ -1,0 +1,46 @@
+-- The number that a loss call is refused with, 0 where it is accepted: 1, 2, 5, 3, 4, then the first fault's. Assumes nothing.
+use Prim.Native.Nat.{ℕ}
+use mathlib.Core.Bool.{Bool, true, _&&_}
+use mathlib.Core.List.{List}
+use lib.Dec.{eqb, leb}
+use lib.Ieee.{Float}
+use lib.ListN.{length}
+use Rattle.reads.specs.Reads.{check, first}
+use Rattle.weights.specs.Weights.{weightsRefusal}
+use Rattle.tables.specs.Batch.{Table, Prefixes, Cards}
+use Rattle.checks.specs.Faults.{prefixFault, cardFault}
+use Rattle.checks.specs.Sizes.{longestDef, prefixSized, cardSized}
+
+-- 'a loss-only entry .. lends no records, step gradients or slots, so it never gives 4 or 5'
+unfoldable pub lossRefusal : (w : List Float) (sized : Bool) (fault : ℕ) → ℕ
+lossRefusal w sized fault = first (weightsRefusal w) (first (check true sized 3) fault)
+
+unfoldable pub gradRefusal : (w : List Float) (slots sized room : Bool) (fault : ℕ) → ℕ
+gradRefusal w slots sized room fault =
+    first (weightsRefusal w) (first (check true slots 5) (first (check true sized 3) (first (check true room 4) fault)))
+
+abbrev pub longestOf : Table → ℕ
+longestOf t = longestDef (t .lengths) (t .rows) (t .columns)
+
+abbrev pub prefixesSized : Prefixes → Bool
+prefixesSized x =
+    prefixSized (length (x .table .days)) (length (x .table .ratings)) (x .table .rows) (x .table .columns) (length (x .table .lengths)) (length (x .days)) (length (x .labels)) (length (x .weights))
+
+unfoldable pub prefixLossRefusal : (w : List Float) (x : Prefixes) → ℕ
+prefixLossRefusal w x = lossRefusal w (prefixesSized x) (prefixFault x .refusal)
+
+-- slots, records, step-grads: how many are lent
+unfoldable pub prefixGradRefusal : (w : List Float) (x : Prefixes) (slots records : ℕ) → ℕ
+prefixGradRefusal w x slots records =
+    gradRefusal w (eqb slots 21) (prefixesSized x) (leb (longestOf (x .table)) records) (prefixFault x .refusal)
+
+abbrev pub cardsSized : Cards → Bool
+cardsSized x =
+    cardSized (length (x .table .days)) (length (x .table .ratings)) (x .table .rows) (x .table .columns) (length (x .table .lengths)) (length (x .labels)) (length (x .weights))
+
+unfoldable pub cardLossRefusal : (w : List Float) (x : Cards) → ℕ
+cardLossRefusal w x = lossRefusal w (cardsSized x) (cardFault x .refusal)
+
+unfoldable pub cardGradRefusal : (w : List Float) (x : Cards) (slots records step-grads : ℕ) → ℕ
+cardGradRefusal w x slots records step-grads =
+    gradRefusal w (eqb slots 21) (cardsSized x) (leb (longestOf (x .table)) records && leb (longestOf (x .table)) step-grads) (cardFault x .refusal)

@@ -1,0 +1,73 @@
+-- batch_loss_and_grad and batch_loss of analytic_v6.rs, with document 01's refusals in its order: 1, 2, 5, 3, 4, then the first fault. Assumes nothing.
+use Prim.Native.Nat.{ℕ, zero, suc}
+use mathlib.Core.Bool.{cond}
+use mathlib.Core.List.{List}
+use lib.Dec.{eqb}
+use lib.Ieee.{Float}
+use lib.ListN.{length}
+use Rattle.weights.specs.Weights.{_!_}
+use Rattle.branches.specs.Doubles.{_+ᵈ_, zero64}
+use Rattle.branches.specs.Params.{paramsDef}
+use Rattle.branches.specs.declared.params.RuntimeParams.{RuntimeParams}
+use Rattle.tables.specs.Batch.{Prefixes, lengthAt}
+use Rattle.checks.specs.Refusals.{prefixLossRefusal, prefixGradRefusal}
+use Rattle.records.specs.Records.{roomDef}
+use Rattle.passes.specs.Back.{startGrad, backDef}
+use Rattle.passes.specs.Ends.{targetLoss, targetGrad, targetSlots}
+use Rattle.passes.specs.Path.{stateAt, recordAt, storedDef}
+use Rattle.prefixes.specs.declared.Loss.{Loss}
+
+-- prefix_loss_and_grad, for one column
+module _ (p : RuntimeParams) (x : Prefixes) (column : ℕ) where
+  -- the stability that its target is scored at
+  abbrev pub targetStability : Float
+  targetStability = stateAt p (x .table .days) (x .table .ratings) (x .table .columns) column (lengthAt (x .table) column) .s
+
+  unfoldable pub prefixLoss : Float
+  prefixLoss = targetLoss p targetStability (x .days ! column) (x .labels ! column) (x .weights ! column)
+
+  -- first the target's curve, then its steps, the last first; no step of a prefix is scored
+  unfoldable pub prefixSlots : (gw : List Float) → List Float
+  prefixSlots gw =
+      backDef p (recordAt p (x .table .days) (x .table .ratings) (x .table .columns) column) (λ row. zero64) (lengthAt (x .table) column)
+      (startGrad (targetGrad p targetStability (x .days ! column) (x .labels ! column) (x .weights ! column)))
+      (targetSlots p targetStability (x .days ! column) (x .labels ! column) (x .weights ! column) gw)
+
+  unfoldable pub prefixRecords : (records : List Float) → List Float
+  prefixRecords records = storedDef p (x .table .days) (x .table .ratings) (x .table .columns) column (lengthAt (x .table) column) records
+
+-- column after column
+module _ (p : RuntimeParams) (x : Prefixes) where
+  -- 'column losses add in column order in double'
+  unfoldable pub lossTo : (columns : ℕ) → Float
+  lossTo zero = zero64
+  lossTo (suc column) = lossTo column +ᵈ prefixLoss p x column
+
+  unfoldable pub slotsTo : (columns : ℕ) (gw : List Float) → List Float
+  slotsTo zero gw = gw
+  slotsTo (suc column) gw = prefixSlots p x column (slotsTo column gw)
+
+  unfoldable pub recordsTo : (columns : ℕ) (records : List Float) → List Float
+  recordsTo zero records = records
+  recordsTo (suc column) records = prefixRecords p x column (recordsTo column records)
+
+-- 'A refusal gives +0.0 in every number of its answer'
+unfoldable pub answer : (refusal : ℕ) (loss : Float) → Loss
+answer refusal loss = record { refusal = refusal; loss = cond (eqb refusal 0) loss zero64 }
+
+abbrev pub lossOf : (w : List Float) (x : Prefixes) → Float
+lossOf w x = lossTo (paramsDef w) x (x .table .columns)
+
+-- cells: how many singles are lent for the records
+unfoldable pub batchLossAndGrad : (w : List Float) (slots : ℕ) (x : Prefixes) (cells : ℕ) → Loss
+batchLossAndGrad w slots x cells = answer (prefixGradRefusal w x slots (roomDef cells)) (lossOf w x)
+
+-- the slots are added to, and left as they were where the call is refused
+unfoldable pub batchSlots : (w : List Float) (x : Prefixes) (cells : ℕ) (gw : List Float) → List Float
+batchSlots w x cells gw = cond (eqb (prefixGradRefusal w x (length gw) (roomDef cells)) 0) (slotsTo (paramsDef w) x (x .table .columns) gw) gw
+
+unfoldable pub batchRecords : (w : List Float) (slots : ℕ) (x : Prefixes) (records : List Float) → List Float
+batchRecords w slots x records = cond (eqb (prefixGradRefusal w x slots (roomDef (length records))) 0) (recordsTo (paramsDef w) x (x .table .columns) records) records
+
+unfoldable pub batchLoss : (w : List Float) (x : Prefixes) → Loss
+batchLoss w x = answer (prefixLossRefusal w x) (lossOf w x)
