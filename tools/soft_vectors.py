@@ -1,5 +1,5 @@
 #!/usr/bin/env python3
-"""Writes crates/soft_vectors/stdin, the test vectors of `soft` and `wide`, and its stdout.
+"""Writes crates/soft_vectors/stdin, the test vectors of `parts`, `half_away`, `soft`, `fma` and `wide`, and its stdout.
 
     tools/soft_vectors.py [SEED]
 

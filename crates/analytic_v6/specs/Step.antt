@@ -6,7 +6,7 @@ use lib.Dec.{eqb}
 use lib.Ieee.{Float, eq}
 use lib.Ieee.Scale.{finite}
 use lib.ListN.{length}
-use Rattle.branches.specs.Doubles.{zero64}
+use Rattle.domain.specs.Doubles.{zero64}
 use Rattle.domain.specs.Limits.{zero32, dayGood}
 use Rattle.reads.specs.Reads.{ratingGood}
 use Rattle.weights.specs.Weights.{weightsRefusal}

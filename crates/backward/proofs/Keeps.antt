@@ -7,7 +7,7 @@ use lib.Dec.{T, eqb}
 use lib.Ieee.{Float, eq, ne, nan}
 use lib.Seq.{getD-set-other}
 use borrow.Author.Tests.{eqb-false}
-use Rattle.branches.specs.Doubles.{zero64}
+use Rattle.domain.specs.Doubles.{zero64}
 use Rattle.domain.specs.Limits.{two, four}
 use Rattle.weights.specs.Weights.{_!_}
 use Rattle.branches.specs.Params.{initDifficulty}

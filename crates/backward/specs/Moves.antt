@@ -4,7 +4,7 @@ use mathlib.Core.Bool.{Bool, not, _&&_, _||_, cond}
 use mathlib.Core.List.{List, [], _∷_}
 use lib.Dec.{eqb}
 use lib.Ieee.{Float, eq}
-use Rattle.branches.specs.Doubles.{zero64}
+use Rattle.domain.specs.Doubles.{zero64}
 use Rattle.forward.specs.Reads.{among, firstWeights, common, successWeights}
 use Rattle.branches.specs.declared.stability.Branch.{Branch}
 use Rattle.branches.specs.declared.stability.Branch.the-variants.{Padding, First, SameDay, Lapse, Success}

@@ -6,7 +6,7 @@ use lib.Ieee.{Float}
 use Rattle.domain.specs.Floats.{maxDef}
 use Rattle.domain.specs.Limits.{zero32, S_MIN, S_MAX, D_MIN, D_MAX}
 use Rattle.weights.specs.Weights.{_!_}
-use Rattle.branches.specs.Doubles.{_+ᵈ_, _*ᵈ_, zero64}
+use Rattle.domain.specs.Doubles.{_+ᵈ_, _*ᵈ_, zero64}
 use Rattle.branches.specs.Curve.{baseDef}
 use Rattle.branches.specs.declared.curve.CurveCache.{CurveCache}
 use Rattle.branches.specs.declared.params.RuntimeParams.{RuntimeParams}

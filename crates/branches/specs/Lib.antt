@@ -1,4 +1,3 @@
 pub mod Curve
-pub mod Doubles
 pub mod Params
 pub mod Stability

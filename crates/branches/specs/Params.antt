@@ -7,7 +7,7 @@ use Rattle.domain.specs.Floats.{_+ᶠ_, _-ᶠ_, _*ᶠ_, _/ᶠ_}
 use Rattle.domain.specs.Limits.{decimal, one, ratingOffset}
 use Rattle.weights.specs.Weights.{_!_}
 use Rattle.kernels.specs.Calls.{exp32, ln32, exp64, ln64}
-use Rattle.branches.specs.Doubles.{_*ᵈ_, _/ᵈ_, three64}
+use Rattle.domain.specs.Doubles.{_*ᵈ_, _/ᵈ_, three64}
 use Rattle.branches.specs.declared.params.RuntimeParams.{RuntimeParams}
 
 -- ((0.9f32.ln()) / curve_decay).exp() - 1.0

@@ -2,7 +2,7 @@
 ghost use mathlib.Core.Path.{_≡_};
 ghost use Rattle.branches.specs.Curve.{curveForward};
 use domain::floats::max;
-use kernels::pow::pow_f32;
+use ln_pow::pow::pow_f32;
 
 pub struct CurveCache {
     pub t: f32,

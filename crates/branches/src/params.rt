@@ -2,10 +2,10 @@
 ghost use mathlib.Core.Path.{_≡_};
 ghost use Rattle.branches.specs.Params.{curveFactor, curveSlope, initDifficulty, paramsDef};
 use domain::limits::rating_offset;
-use kernels::exp::exp_f32;
-use kernels::exp::exp_f64;
-use kernels::ln::ln_f32;
-use kernels::ln::ln_f64;
+use exp::exp_f32;
+use exp::exp_f64;
+use ln_pow::ln::ln_f32;
+use ln_pow::ln::ln_f64;
 use std::num::f32_to_f64_with_nan;
 
 pub struct RuntimeParams {

@@ -4,8 +4,8 @@ ghost use mathlib.Core.Path.{_≡_};
 ghost use Rattle.branches.specs.Stability.{shortRaw, isFloored, shortValue, shortDef, lapseRaw, lapseMove, lapseDef, successDef};
 use domain::floats::choose;
 use domain::floats::max;
-use kernels::exp::exp_f32;
-use kernels::pow::pow_f32;
+use exp::exp_f32;
+use ln_pow::pow::pow_f32;
 
 // The taken branch. First: the rating, 1 to 4.
 pub enum Branch {

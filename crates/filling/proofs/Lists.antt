@@ -7,7 +7,7 @@ use native.Mathlib.Nat.{zero-add, suc-add}
 use lib.Ieee.{Float, binary32}
 use lib.ListN.{length, replicate, set, length-set}
 use lib.Seq.{set-append-left}
-use Rattle.soft.specs.Fma.{fmaDef}
+use Rattle.fma.specs.Fma.{fmaDef}
 use Rattle.kernels.specs.Calls.{ln32}
 use Rattle.domain.specs.Floats.{_+ᶠ_, _/ᶠ_}
 use Rattle.domain.specs.Limits.{zero32, half, one, two, three}

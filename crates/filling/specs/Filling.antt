@@ -5,7 +5,7 @@ use mathlib.Core.List.{List, [], _∷_, _++_}
 use lib.Dec.{eqb}
 use lib.Ieee.{Float, binary32}
 use lib.ListN.{length, replicate, set}
-use Rattle.soft.specs.Fma.{fmaDef}
+use Rattle.fma.specs.Fma.{fmaDef}
 use Rattle.kernels.specs.Calls.{ln32}
 use Rattle.domain.specs.Floats.{_+ᶠ_, _/ᶠ_}
 use Rattle.domain.specs.Limits.{zero32, half, one, two, three}

@@ -5,8 +5,8 @@ use mathlib.Core.List.{List}
 use lib.Dec.{eqb, leb}
 use lib.IntN.{pos}
 use lib.Ieee.{Float, binary32, neg, ofInt}
-use Rattle.soft.specs.Fma.{fmaDef}
-use Rattle.soft.specs.HalfAway.{roundDef}
+use Rattle.fma.specs.Fma.{fmaDef}
+use Rattle.half_away.specs.HalfAway.{roundDef}
 use Rattle.kernels.specs.Calls.{exp32, pow32}
 use Rattle.domain.specs.Floats.{_+ᶠ_, _-ᶠ_, _*ᶠ_, _/ᶠ_, clampDef, maxDef, minDef}
 use Rattle.domain.specs.Limits.{decimal, zero32, one, three, nine, ten, eleven, ratingOffset, S_MIN, S_MAX, D_MIN, D_MAX}

@@ -6,9 +6,9 @@ use domain::floats::clamp;
 use domain::floats::max;
 use domain::limits::clamp_interval;
 use domain::limits::floor_stability;
-use kernels::pow::pow_f32;
-use soft::fma::fma_f32;
-use soft::round::round_f32;
+use fma::fma_f32;
+use half_away::round_f32;
+use ln_pow::pow::pow_f32;
 
 // 0.9^(1/decay) - 1
 fn factor(decay: f32) -> f32

@@ -3,7 +3,7 @@ ghost use mathlib.Core.Path.{_≡_};
 ghost use Rattle.formulas.specs.Formulas.{initDifficultyDef, meanReversionDef, nextDifficultyDef};
 use domain::limits::clamp_difficulty;
 use domain::limits::rating_offset;
-use kernels::exp::exp_f32;
+use exp::exp_f32;
 
 pub fn init_difficulty(w: &[f32; 21], rating: u32) -> f32
     ensures { λ r. ⌜ r ≡ initDifficultyDef (now (w .entry)) rating ⌝ }

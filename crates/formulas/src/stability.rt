@@ -5,8 +5,8 @@ use domain::floats::choose;
 use domain::floats::max;
 use domain::floats::min;
 use domain::limits::clamp_stability;
-use kernels::exp::exp_f32;
-use kernels::pow::pow_f32;
+use exp::exp_f32;
+use ln_pow::pow::pow_f32;
 
 pub fn stability_after_success(w: &[f32; 21], s: f32, r: f32, d: f32, rating: u32) -> f32
     ensures { λ q. ⌜ q ≡ successDef (now (w .entry)) s r d rating ⌝ }

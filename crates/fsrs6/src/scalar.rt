@@ -1,18 +1,18 @@
 // The scalar functions, single and double. exp, ln and pow answer a NaN, refusal 10, outside their domain and nowhere else.
-use kernels::exp::exp_f32;
-use kernels::exp::exp_f64;
-use kernels::ln::ln_f32;
-use kernels::ln::ln_f64;
-use kernels::pow::pow_f32;
-use kernels::pow::pow_f64;
-use soft::fma::fma_f32;
-use soft::fma::fma_f64;
-use soft::round::round_f32;
-use soft::round::round_f64;
+use exp::exp_f32;
+use exp::exp_f64;
+use fma::fma_f32;
+use fma::fma_f64;
+use half_away::round_f32;
+use half_away::round_f64;
+use ln_pow::ln::ln_f32;
+use ln_pow::ln::ln_f64;
+use ln_pow::pow::pow_f32;
+use ln_pow::pow::pow_f64;
 ghost use mathlib.Core.Path.{_≡_};
 ghost use lib.Ieee.{binary32, binary64};
-ghost use Rattle.soft.specs.Fma.{fmaDef};
-ghost use Rattle.soft.specs.HalfAway.{roundDef};
+ghost use Rattle.fma.specs.Fma.{fmaDef};
+ghost use Rattle.half_away.specs.HalfAway.{roundDef};
 ghost use Rattle.kernels.specs.Kernels.{expDef, lnDef, powDef};
 
 #[no_mangle]

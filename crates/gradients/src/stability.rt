@@ -1,13 +1,13 @@
 // The reverse of the three ways in which a review moves the stability.
 ghost use mathlib.Core.Path.{_≡_};
 ghost use Rattle.gradients.specs.Stability.{noGrads, shortSlots, shortGrad, shortBack, shortMoved, floorGrads, floorSlots, lapseParts, lapseSlots, lapseGrads, failureBack, failureMoved, successParts, successSlots, successGrads, successBack, successMoved};
-ghost use Rattle.branches.specs.Doubles.{_*ᵈ_};
+ghost use Rattle.domain.specs.Doubles.{_*ᵈ_};
 use branches::params::RuntimeParams;
 use branches::stability::State;
 use domain::floats::choose;
-use kernels::exp::exp_f64;
-use kernels::ln::ln_f64;
-use kernels::pow::pow_f64;
+use exp::exp_f64;
+use ln_pow::ln::ln_f64;
+use ln_pow::pow::pow_f64;
 use slots::slots::add;
 use slots::slots::add_if;
 use std::num::f32_to_f64_with_nan;

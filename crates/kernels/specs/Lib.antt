@@ -1,5 +1,4 @@
 pub mod Calls
 pub mod Core
 pub mod Kernels
-pub mod PowerSteps
-pub mod LogSteps
+pub mod Steps

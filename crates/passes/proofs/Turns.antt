@@ -8,7 +8,7 @@ use native.Mathlib.Omega.{arith}
 use lib.Ieee.{Float}
 use lib.ListN.{set}
 use Rattle.weights.specs.Weights.{_!_}
-use Rattle.branches.specs.Doubles.{_+ᵈ_}
+use Rattle.domain.specs.Doubles.{_+ᵈ_}
 use Rattle.branches.specs.declared.params.RuntimeParams.{RuntimeParams}
 use Rattle.branches.specs.declared.stability.State.{State}
 use Rattle.tables.specs.Tables.{cell}

@@ -2,7 +2,7 @@
 use Prim.Native.Nat.{ℕ, zero, suc}
 use mathlib.Core.List.{List}
 use lib.Ieee.{Float}
-use Rattle.branches.specs.Doubles.{zero64}
+use Rattle.domain.specs.Doubles.{zero64}
 use Rattle.branches.specs.declared.params.RuntimeParams.{RuntimeParams}
 use Rattle.forward.specs.declared.step.StepRecord.{StepRecord}
 use Rattle.backward.specs.Step.{stepGrad, stepMoved}

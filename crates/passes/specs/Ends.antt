@@ -7,7 +7,7 @@ use Rattle.domain.specs.Floats.{clampDef}
 use Rattle.domain.specs.Limits.{zero32, S_MIN, S_MAX}
 use Rattle.reads.specs.Reads.{cardLabel}
 use Rattle.branches.specs.Curve.{curveForward}
-use Rattle.branches.specs.Doubles.{_+ᵈ_, _*ᵈ_, zero64}
+use Rattle.domain.specs.Doubles.{_+ᵈ_, _*ᵈ_, zero64}
 use Rattle.branches.specs.declared.curve.CurveCache.{CurveCache}
 use Rattle.branches.specs.declared.params.RuntimeParams.{RuntimeParams}
 use Rattle.slots.specs.Curve.{curveBack, curveSlots}

@@ -1,7 +1,7 @@
 // Backward over a column's records.
 ghost use mathlib.Core.Path.{_≡_};
 ghost use lib.ListN.{getD};
-ghost use Rattle.branches.specs.Doubles.{zero64};
+ghost use Rattle.domain.specs.Doubles.{zero64};
 ghost use Rattle.records.specs.Records.{loadDef};
 ghost use Rattle.passes.specs.Back.{startGrad, backDef};
 use backward::step::StateGrad;

@@ -6,7 +6,7 @@ use lib.Dec.{eqb}
 use lib.Ieee.{Float}
 use lib.ListN.{length}
 use Rattle.weights.specs.Weights.{_!_}
-use Rattle.branches.specs.Doubles.{_+ᵈ_, zero64}
+use Rattle.domain.specs.Doubles.{_+ᵈ_, zero64}
 use Rattle.branches.specs.Params.{paramsDef}
 use Rattle.branches.specs.declared.params.RuntimeParams.{RuntimeParams}
 use Rattle.tables.specs.Batch.{Prefixes, lengthAt}

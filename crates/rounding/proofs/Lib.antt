@@ -1,4 +1,4 @@
--- Laws of rounding, each over the format: what the proofs of `soft` and of the crates above it cite.
+-- Laws of rounding, each over the format: what the proofs of `parts` and of the crates above it cite.
 pub mod Basics
 pub mod Closest
 pub mod Pattern
@@ -7,3 +7,4 @@ pub mod Sticky
 pub mod Tiny
 pub mod Sum
 pub mod Relative
+pub mod Exponent

@@ -4,7 +4,7 @@ use lib.Ieee.{Float, neg, eq, lt}
 use Rattle.kernels.specs.Calls.{ln32}
 use Rattle.domain.specs.Floats.{_+ᶠ_, _-ᶠ_, _*ᶠ_, _/ᶠ_, clampDef}
 use Rattle.domain.specs.Limits.{decimal, zero32, one}
-use Rattle.branches.specs.Doubles.{zero64}
+use Rattle.domain.specs.Doubles.{zero64}
 use Rattle.scores.specs.declared.Score.{Score}
 
 -- const MIN_PROB: f32 = 1e-7

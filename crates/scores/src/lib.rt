@@ -1,10 +1,10 @@
 // The loss of one scored review: weighted binary cross entropy, and its derivative by the retrievability.
 ghost use mathlib.Core.Path.{_≡_};
 ghost use Rattle.scores.specs.Scores.{probability, bceLoss, bceGrad, isInside, scoreDef};
-ghost use Rattle.branches.specs.Doubles.{zero64};
+ghost use Rattle.domain.specs.Doubles.{zero64};
 ghost use mathlib.Core.Bool.{cond};
 use domain::floats::clamp;
-use kernels::ln::ln_f32;
+use ln_pow::ln::ln_f32;
 use std::num::f32_to_f64_with_nan;
 
 const MIN_PROB: f32 = 1e-7;

@@ -3,7 +3,7 @@ use mathlib.Core.Bool.{cond}
 use mathlib.Core.List.{List}
 use lib.Ieee.{Float, neg, eq}
 use Rattle.kernels.specs.Calls.{ln64}
-use Rattle.branches.specs.Doubles.{_+ᵈ_, _*ᵈ_, _/ᵈ_, zero64}
+use Rattle.domain.specs.Doubles.{_+ᵈ_, _*ᵈ_, _/ᵈ_, zero64}
 use Rattle.branches.specs.declared.curve.CurveCache.{CurveCache}
 use Rattle.slots.specs.Slots.{bump}
 use Rattle.slots.specs.declared.curve.Wide.{Wide}

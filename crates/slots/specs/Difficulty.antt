@@ -8,7 +8,7 @@ use Rattle.domain.specs.Limits.{three, ratingOffset, D_MIN, D_MAX}
 use Rattle.weights.specs.Weights.{_!_}
 use Rattle.branches.specs.Params.{initDifficulty}
 use Rattle.kernels.specs.Calls.{exp64}
-use Rattle.branches.specs.Doubles.{_+ᵈ_, _-ᵈ_, _*ᵈ_, _/ᵈ_, zero64, one64, three64, nine64, ten64}
+use Rattle.domain.specs.Doubles.{_+ᵈ_, _-ᵈ_, _*ᵈ_, _/ᵈ_, zero64, one64, three64, nine64, ten64}
 use Rattle.branches.specs.declared.params.RuntimeParams.{RuntimeParams}
 use Rattle.slots.specs.Slots.{bump, clampGrad}
 use Rattle.slots.specs.declared.difficulty.DifficultyParts.{DifficultyParts}

@@ -5,7 +5,7 @@ use mathlib.Core.List.{List}
 use lib.Ieee.{Float, nan}
 use lib.ListN.{getD, set}
 use Rattle.domain.specs.Floats.{within}
-use Rattle.branches.specs.Doubles.{_+ᵈ_, zero64, one64}
+use Rattle.domain.specs.Doubles.{_+ᵈ_, zero64, one64}
 
 -- gw[i] += v; a slot that is not there stays so
 unfoldable pub bump : List Float → ℕ → Float → List Float

@@ -3,7 +3,7 @@ ghost use mathlib.Core.Path.{_≡_};
 ghost use Rattle.slots.specs.Curve.{widenedDef, curveGrad, curveSlot, curveBack, curveSlots};
 use crate::slots::add;
 use branches::curve::CurveCache;
-use kernels::ln::ln_f64;
+use ln_pow::ln::ln_f64;
 use std::num::f32_to_f64_with_nan;
 
 // The cached curve in doubles.

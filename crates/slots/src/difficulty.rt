@@ -6,7 +6,7 @@ use crate::slots::add;
 use branches::params::RuntimeParams;
 use branches::params::init_difficulty;
 use domain::limits::rating_offset;
-use kernels::exp::exp_f64;
+use exp::exp_f64;
 use std::num::f32_to_f64_with_nan;
 
 pub struct DifficultyParts {

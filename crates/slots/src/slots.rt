@@ -1,7 +1,7 @@
 // A slot is added to, never cleared.
 ghost use mathlib.Core.Path.{_≡_};
 ghost use mathlib.Core.Bool.{cond};
-ghost use Rattle.branches.specs.Doubles.{zero64, one64};
+ghost use Rattle.domain.specs.Doubles.{zero64, one64};
 ghost use Rattle.domain.specs.Limits.{S_MIN, S_MAX, D_MIN, D_MAX};
 ghost use Rattle.slots.specs.Slots.{bump, bumpIf, clampGrad};
 use domain::limits::is_difficulty;

@@ -1,8 +1,4 @@
--- What `soft` promises, from IEEE 754 and from Rust's own account of `round` and `as`, over the kit's exact fractions (lib.Ieee).
-pub mod Parts
+-- What `soft` promises, from IEEE 754 and from Rust's own account of `as`, over the kit's exact fractions (lib.Ieee).
 pub mod Pack
 pub mod Narrow
-pub mod HalfAway
-pub mod Fma
-pub mod Units
 pub mod Steps

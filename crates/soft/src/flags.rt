@@ -1,7 +1,6 @@
 // Flags as values: no branch is left open where they meet.
 ghost use mathlib.Core.Path.{_≡_};
-ghost use mathlib.Core.Bool.{cond, _||_, _&&_};
-ghost use lib.Ieee as Ieee;
+ghost use mathlib.Core.Bool.{cond, _||_};
 
 pub fn bit(b: bool) -> u64
     ensures { λ r. ⌜ r ≡ cond b 1 0 ⌝ }
@@ -13,17 +12,4 @@ pub fn either(a: bool, b: bool) -> bool
     ensures { λ r. ⌜ r ≡ (a || b) ⌝ }
 {
     if a { true } else { b }
-}
-
-pub fn both(a: bool, b: bool) -> bool
-    ensures { λ r. ⌜ r ≡ (a && b) ⌝ }
-{
-    if a { b } else { false }
-}
-
-// The sign of a product.
-pub fn unlike(a: bool, b: bool) -> bool
-    ensures { λ r. ⌜ r ≡ Ieee.unlike a b ⌝ }
-{
-    if a { !b } else { b }
 }

@@ -1,14 +1,7 @@
-// Float arithmetic that Rust takes from its library, done on whole numbers, for f32 and f64: a float
-// taken apart (`decode`) and put together (`pack`), narrowed, rounded to a whole number, and the
-// fused multiply-add. Each contract equates the answer to a definition of specs/, and none asks
-// anything of its caller.
-pub mod decode;
-mod fields;
+// Floats put together by whole numbers: an f32 or f64 from its digits and exponent (`pack`), an f64 narrowed to an f32.
+// Each contract equates the answer to a definition of specs/, and none asks anything of its caller.
 mod flags;
-pub mod fma;
 pub mod narrow;
 pub mod pack;
 mod place;
-pub mod round;
 mod squeeze;
-pub mod units;

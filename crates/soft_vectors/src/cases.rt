@@ -1,6 +1,6 @@
 // Each operation on a line's numbers, compared with the answer there.
-use soft::decode::Class;
-use soft::decode::Parts;
+use parts::decode::Class;
+use parts::decode::Parts;
 use vectors::patterns::f32_of;
 use vectors::patterns::f64_of;
 use vectors::patterns::pattern_bool;
@@ -32,22 +32,22 @@ pub fn case_of(words: &[u64; 6]) -> Case {
 }
 
 fn fma_f64(k: Case) -> bool {
-    let got = soft::fma::fma_f64(f64_of(k.a), f64_of(k.b), f64_of(k.c));
+    let got = fma::fma_f64(f64_of(k.a), f64_of(k.b), f64_of(k.c));
     pattern_f64(got) == k.r
 }
 
 fn fma_f32(k: Case) -> bool {
-    let got = soft::fma::fma_f32(f32_of(k.a), f32_of(k.b), f32_of(k.c));
+    let got = fma::fma_f32(f32_of(k.a), f32_of(k.b), f32_of(k.c));
     pattern_f32(got) == k.r
 }
 
 fn round_f64(k: Case) -> bool {
-    let got = soft::round::round_f64(f64_of(k.a));
+    let got = half_away::round_f64(f64_of(k.a));
     pattern_f64(got) == k.r
 }
 
 fn round_f32(k: Case) -> bool {
-    let got = soft::round::round_f32(f32_of(k.a));
+    let got = half_away::round_f32(f32_of(k.a));
     pattern_f32(got) == k.r
 }
 
@@ -121,8 +121,8 @@ fn soft_passes(row: usize, k: Case) -> bool {
         4 => narrow(k),
         5 => pack_f64(k),
         6 => pack_f32(k),
-        7 => same_parts(soft::decode::decode_f64(f64_of(k.a)), k),
-        8 => same_parts(soft::decode::decode_f32(f32_of(k.a)), k),
+        7 => same_parts(parts::decode::decode_f64(f64_of(k.a)), k),
+        8 => same_parts(parts::decode::decode_f32(f32_of(k.a)), k),
         _ => false,
     }
 }

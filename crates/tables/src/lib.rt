@@ -6,7 +6,7 @@ ghost use lib.Dec.{leb};
 ghost use Prim.Native.Nat.{_*_};
 ghost use lib.ListN.{getD, set};
 ghost use Rattle.weights.specs.Weights.{_!_};
-ghost use Rattle.branches.specs.Doubles.{zero64};
+ghost use Rattle.domain.specs.Doubles.{zero64};
 ghost use Rattle.tables.specs.Tables.{cell, cutAt};
 
 pub fn table_cells(rows: u32, columns: u32) -> usize

@@ -66,9 +66,3 @@ squeezed-near w b h = cap (size w) (size-le w 128 h)
 -- ---- what `place` asks
 pub digits-fit : (w : ℕ) (t : Bool) (v : Scaled) → v ≡ squeezeDef w t → v .digits < 2 ^ 63
 digits-fit w t v q = subst (λ (x : Scaled). x .digits < 2 ^ 63) (sym q) (squeezed-lt w t)
-
-pub places-near : (w : ℕ) (t : Bool) (v : Scaled) (p : ℕ) → w < 2 ^ 128 → v ≡ squeezeDef w t → p < 2 ^ 13 → p + v .places < 2 ^ 14
-places-near w t v p h q g = near p (v .places) g (subst (λ (x : Scaled). x .places ≤ 66) (sym q) (squeezed-near w t h))
-  where
-    near : (p n : ℕ) → p < 2 ^ 13 → n ≤ 66 → p + n < 2 ^ 14
-    near p n a b = omega arith

@@ -2,7 +2,7 @@ use mathlib.Core.Path.{sym}
 use borrow.Author.Needs.{needs}
 use lib.Ieee.{nan}
 use lib.ListN.{List·getD-eq-default}
-use Rattle.branches.specs.Doubles.{zero64}
+use Rattle.domain.specs.Doubles.{zero64}
 use Rattle.tables.proofs.Default.{within}
 use Rattle.tables.proofs.read_f64.Statement.{statement}
 use Rattle.tables.proofs.read_f64.Tie as tie

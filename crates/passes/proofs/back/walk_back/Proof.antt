@@ -3,7 +3,7 @@ use mathlib.Core.Path.{_≡_, refl}
 use native.Mathlib.Omega.{arith}
 use borrow.Author.Needs.{needs}
 use lib.ListN.{getD, length}
-use Rattle.branches.specs.Doubles.{zero64}
+use Rattle.domain.specs.Doubles.{zero64}
 use Rattle.records.specs.Records.{loadDef}
 use Rattle.passes.specs.Back.{startGrad, backDef}
 use Rattle.passes.proofs.Turns.{back-turn, back-done}

@@ -1,3 +1,0 @@
--- What the search of the table finds.
-pub mod First
-mod Starts

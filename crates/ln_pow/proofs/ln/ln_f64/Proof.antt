@@ -1,0 +1,40 @@
+-- `ln_pow::ln::ln_f64` meets its contract. Assumes nothing.
+use mathlib.Core.Path.{sym, _∙_}
+use lib.Ieee.{binary64, ofBits, div}
+use borrow.Author.Needs.{needs}
+use borrow.Author.Tests.{not-true, not-false}
+use Rattle.wide.specs.Value.{valueOf}
+use Rattle.parts.proofs.units.Value.{holds}
+use Rattle.ln_pow.proofs.ln.Answer.{no-log, ln-is}
+use Rattle.ln_pow.proofs.ln.ln_f64.Statement.{statement}
+use Rattle.ln_pow.proofs.ln.ln_f64.Tie as tie
+
+has-log-requires : tie.Need-has-log-requires
+has-log-requires c κs = search needs
+
+returns : tie.Need-returns
+unfolding ofBits div
+returns c = no-log binary64 (c .before .before .args .x) (sym (c .before .has-log .ensures) ∙ not-true (c .before .has-log .result) (c .if1 .taken))
+
+log-f64-requires : tie.Need-log-f64-requires
+log-f64-requires c κs = holds (sym (c .before .has-log .ensures) ∙ not-false (c .before .has-log .result) (c .if1 .left))
+
+joined-requires : tie.Need-joined-requires
+joined-requires c κs = search needs
+
+pack-wide-f64-requires : tie.Need-pack-wide-f64-requires
+pack-wide-f64-requires c κs = search needs
+
+returns-2 : tie.Need-returns-2
+returns-2 c = c .pack-wide-f64 .ensures ∙ ln-is binary64 (c .before .before .before .before .before .args .x) (c .before .before .log-f64 .result) (valueOf (c .before .joined .result)) (holds (sym (c .before .before .before .before .has-log .ensures) ∙ not-false (c .before .before .before .before .has-log .result) (c .before .before .before .if1 .left))) (c .before .before .log-f64 .ensures) (c .before .joined .ensures)
+
+pub ln-f64-spec : {M : Type 1} → statement M
+ln-f64-spec =
+    tie.close
+    (tie.spec
+    has-log-requires
+    returns
+    log-f64-requires
+    joined-requires
+    pack-wide-f64-requires
+    returns-2)

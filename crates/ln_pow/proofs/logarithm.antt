@@ -1,0 +1,4 @@
+-- What the proofs of `logarithm` share, and that a float's fields give the logarithm of its value.
+mod Chain
+mod Signed
+pub mod Units

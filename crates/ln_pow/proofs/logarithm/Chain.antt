@@ -1,0 +1,57 @@
+-- The chain of products, each cut to its upper word, and the words of what comes out of it. Assumes nothing.
+use mathlib.Core.Path.{_≡_, refl, sym, ap, _∙_, subst}
+use mathlib.Core.List.{List, [], _∷_}
+use Prim.Native.Nat.{ℕ, _+_, _-_, _*_, _/_, _%_, _^_, _≤_, _<_}
+use native.Mathlib.Nat.{lt-of-le-of-lt, mul-le-mul-right, mul-zero, add-zero, div-le-of-le-mul, mod-eq-of-lt, add-mod-right}
+use native.Mathlib.Omega.{arith}
+use lib.Ieee.{Format}
+use lib.Bits.{bitAnd}
+use Rattle.wide.specs.declared.Wide.{Wide}
+use Rattle.wide.specs.Value.{valueOf}
+use Rattle.wide.proofs.Laws.{low-is}
+use Rattle.kernels.proofs.Words.{parts}
+use Rattle.kernels.specs.Core.{high, horner, downs, below, Fixed}
+use Rattle.ln_pow.specs.Steps.{Logged}
+
+-- ---- a term more
+upper : (h l p x : ℕ) → h * 2 ^ 64 + l ≡ x → x ≤ 2 ^ 63 * p → 2 * h ≤ p
+upper h l p x e k = omega arith
+
+pub term-fits : (c g p : ℕ) (w : Wide) → c ≤ 2 ^ 63 → g ≤ 2 ^ 63 → p < 2 ^ 64 → valueOf w ≡ g * p → c + w .high < 2 ^ 64
+term-fits c g p w a b d e = sum c (w .high) p a d (upper (w .high) (w .low) p (g * p) e (mul-le-mul-right p b))
+  where
+    sum : (c h p : ℕ) → c ≤ 2 ^ 63 → p < 2 ^ 64 → 2 * h ≤ p → c + h < 2 ^ 64
+    sum c h p a d k = omega arith
+
+pub first : (c g : ℕ) → c ≡ horner (c ∷ []) g
+unfolding horner
+first c g = sym (ap (λ (x : ℕ). c + x / 2 ^ 64) (mul-zero g) ∙ add-zero c)
+
+pub next : (c : ℕ) (cs : List ℕ) (g p r : ℕ) → p ≡ horner cs g → r ≡ c + high g p → r ≡ horner (c ∷ cs) g
+unfolding horner
+next c cs g p r e k = k ∙ ap (λ (x : ℕ). c + high g x) e
+
+-- ---- the last product
+pub scaled-is : (g p : ℕ) (v w : Wide) → g ≤ 2 ^ 63 → p < 2 ^ 64 → w .low < 2 ^ 64 → valueOf v ≡ g * p → valueOf w ≡ valueOf v / 2 ^ 63 → w .low ≡ g * p / 2 ^ 63
+scaled-is g p v w a b l e k = low-is w (g * p / 2 ^ 63) l (k ∙ ap (λ (x : ℕ). x / 2 ^ 63) e) ∙ mod-eq-of-lt (lt-of-le-of-lt (div-le-of-le-mul (2 ^ 63) (mul-le-mul-right p a)) b)
+
+pub below-is : (f : Format) (g p r : ℕ) → p ≡ horner (downs f) g → r ≡ g * p / 2 ^ 63 → r ≡ below f g
+unfolding below
+below-is f g p r e k = k ∙ ap (λ (x : ℕ). g * x / 2 ^ 63) e
+
+-- ---- words of 50 and 32 digits
+pub word-parts : (l : Fixed) (w v : Wide) → l .mag < 2 ^ 82 → l .mag ≡ valueOf w → v .low < 2 ^ 64 → valueOf v ≡ valueOf w / 2 ^ 32
+    → Logged l (record { negative = l .negative; high = v .low; low = bitAnd (w .low) 0xffff_ffff })
+word-parts l w v h e k q =
+    let p = parts w v (subst (λ (x : ℕ). x < 2 ^ 82) e h) k q in
+    record { sign = refl; is = p .0 ∙ sym e; short = p .1; rest = p .2 }
+
+-- ---- sums and differences in two words
+pub difference-is : (m a b : ℕ) → b ≤ a → a < m → (a + (m - b)) % m ≡ a - b
+difference-is m a b h l = ap (λ (x : ℕ). x % m) (turn m a b h l) ∙ add-mod-right (a - b) m ∙ mod-eq-of-lt (less m a b l)
+  where
+    turn : (m a b : ℕ) → b ≤ a → a < m → a + (m - b) ≡ a - b + m
+    turn m a b h l = omega arith
+
+    less : (m a b : ℕ) → a < m → a - b < m
+    less m a b l = omega arith

@@ -1,2 +1,0 @@
--- What the proofs of `round` share.
-pub mod Half
