@@ -2,6 +2,7 @@
 use Prim.Native.Nat.{ℕ}
 use mathlib.Core.Bool.{cond}
 use mathlib.Core.List.{List}
+use lib.Dec.{eqb}
 use lib.Ieee.{Float, eq}
 use Rattle.domain.specs.Floats.{clampDef}
 use Rattle.domain.specs.Limits.{zero32, S_MIN, S_MAX}
@@ -14,6 +15,7 @@ use Rattle.slots.specs.Curve.{curveBack, curveSlots}
 use Rattle.slots.specs.Slots.{clampGrad}
 use Rattle.scores.specs.Scores.{scoreDef}
 use Rattle.scores.specs.declared.Score.{Score}
+use Rattle.passes.specs.declared.ends.Loss.{Loss}
 
 module _ (p : RuntimeParams) (s day label weight : Float) where
   -- curve_forward(p, delta_t, state.s)
@@ -45,3 +47,7 @@ module _ (p : RuntimeParams) (row : ℕ) (s day label weight : Float) where
 
   unfoldable pub lastSlots : (gw : List Float) → List Float
   lastSlots gw = cond (cardLabel row weight) (targetSlots p (clampDef s S_MIN S_MAX) day label weight gw) gw
+
+-- 'A refusal gives +0.0 in every number of its answer'
+unfoldable pub answer : (refusal : ℕ) (loss : Float) → Loss
+answer refusal loss = record { refusal = refusal; loss = cond (eqb refusal 0) loss zero64 }

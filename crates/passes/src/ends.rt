@@ -8,6 +8,12 @@ use scores::bce_loss_and_grad_r;
 use slots::curve::curve_backward;
 use slots::slots::stability_grad;
 
+// What a loss call answers: the number of a refusal, 0 where there is none; the loss, +0.0 where there is one.
+pub struct Loss {
+    pub refusal: u32,
+    pub loss: f64,
+}
+
 pub struct Ending {
     pub loss: f64,
     pub g_s: f64,

@@ -13,9 +13,9 @@ use Rattle.tables.specs.Batch.{Prefixes, lengthAt}
 use Rattle.checks.specs.Refusals.{prefixLossRefusal, prefixGradRefusal}
 use Rattle.records.specs.Records.{roomDef}
 use Rattle.passes.specs.Back.{startGrad, backDef}
-use Rattle.passes.specs.Ends.{targetLoss, targetGrad, targetSlots}
+use Rattle.passes.specs.Ends.{targetLoss, targetGrad, targetSlots, answer}
 use Rattle.passes.specs.Path.{stateAt, recordAt, storedDef}
-use Rattle.prefixes.specs.declared.Loss.{Loss}
+use Rattle.passes.specs.declared.ends.Loss.{Loss}
 
 -- prefix_loss_and_grad, for one column
 module _ (p : RuntimeParams) (x : Prefixes) (column : ℕ) where
@@ -51,23 +51,21 @@ module _ (p : RuntimeParams) (x : Prefixes) where
   recordsTo zero records = records
   recordsTo (suc column) records = prefixRecords p x column (recordsTo column records)
 
--- 'A refusal gives +0.0 in every number of its answer'
-unfoldable pub answer : (refusal : ℕ) (loss : Float) → Loss
-answer refusal loss = record { refusal = refusal; loss = cond (eqb refusal 0) loss zero64 }
-
 abbrev pub lossOf : (w : List Float) (x : Prefixes) → Float
 lossOf w x = lossTo (paramsDef w) x (x .table .columns)
 
--- cells: how many singles are lent for the records
-unfoldable pub batchLossAndGrad : (w : List Float) (slots : ℕ) (x : Prefixes) (cells : ℕ) → Loss
-batchLossAndGrad w slots x cells = answer (prefixGradRefusal w x slots (roomDef cells)) (lossOf w x)
+-- a lent slice stands for its length where only that counts: ten singles make a record
+unfoldable pub batchLossAndGrad : (w : List Float) (x : Prefixes) (gw records : ℕ) → Loss
+batchLossAndGrad w x gw records = answer (prefixGradRefusal w x gw (roomDef records)) (lossOf w x)
 
 -- the slots are added to, and left as they were where the call is refused
-unfoldable pub batchSlots : (w : List Float) (x : Prefixes) (cells : ℕ) (gw : List Float) → List Float
-batchSlots w x cells gw = cond (eqb (prefixGradRefusal w x (length gw) (roomDef cells)) 0) (slotsTo (paramsDef w) x (x .table .columns) gw) gw
+unfoldable pub batchSlots : (w : List Float) (x : Prefixes) (gw : List Float) (records : ℕ) → List Float
+batchSlots w x gw records =
+    cond (eqb (prefixGradRefusal w x (length gw) (roomDef records)) 0) (slotsTo (paramsDef w) x (x .table .columns) gw) gw
 
-unfoldable pub batchRecords : (w : List Float) (slots : ℕ) (x : Prefixes) (records : List Float) → List Float
-batchRecords w slots x records = cond (eqb (prefixGradRefusal w x slots (roomDef (length records))) 0) (recordsTo (paramsDef w) x (x .table .columns) records) records
+unfoldable pub batchRecords : (w : List Float) (x : Prefixes) (gw : ℕ) (records : List Float) → List Float
+batchRecords w x gw records =
+    cond (eqb (prefixGradRefusal w x gw (roomDef (length records))) 0) (recordsTo (paramsDef w) x (x .table .columns) records) records
 
 unfoldable pub batchLoss : (w : List Float) (x : Prefixes) → Loss
 batchLoss w x = answer (prefixLossRefusal w x) (lossOf w x)

@@ -12,6 +12,7 @@ use branches::params::runtime_params;
 use checks::prefix::prefix_grad_refusal;
 use checks::prefix::prefix_loss_refusal;
 use passes::back::walk_back;
+use passes::ends::Loss;
 use passes::ends::target_end;
 use passes::ends::target_loss;
 use passes::path::run_path;
@@ -20,12 +21,6 @@ use records::room;
 use tables::cut_length;
 use tables::read;
 use weights::copy_weights;
-
-// The number of a refusal, 0 where there is none; the loss, +0.0 where there is one.
-pub struct Loss {
-    pub refusal: u32,
-    pub loss: f64,
-}
 
 fn column_loss(
     p: RuntimeParams,
@@ -214,7 +209,7 @@ pub fn batch_loss_and_grad(
     gw: &mut [f64],
     records: &mut [f32],
 ) -> Loss
-    ensures { λ r. ⌜ (r ≡ batchLossAndGrad (now (w .entry)) (length (now (gw .entry))) (prefixesOf (now («t_hist» .entry)) (now («r_hist» .entry)) «seq_len» batch (now («seq_lens» .entry)) (now («delta_ts» .entry)) (now (labels .entry)) (now (weights .entry))) (length (now (records .entry)))) × (now (gw .exit) ≡ batchSlots (now (w .entry)) (prefixesOf (now («t_hist» .entry)) (now («r_hist» .entry)) «seq_len» batch (now («seq_lens» .entry)) (now («delta_ts» .entry)) (now (labels .entry)) (now (weights .entry))) (length (now (records .entry))) (now (gw .entry))) × (now (records .exit) ≡ batchRecords (now (w .entry)) (length (now (gw .entry))) (prefixesOf (now («t_hist» .entry)) (now («r_hist» .entry)) «seq_len» batch (now («seq_lens» .entry)) (now («delta_ts» .entry)) (now (labels .entry)) (now (weights .entry))) (now (records .entry))) ⌝ }
+    ensures { λ r. ⌜ (r ≡ batchLossAndGrad (now (w .entry)) (prefixesOf (now («t_hist» .entry)) (now («r_hist» .entry)) «seq_len» batch (now («seq_lens» .entry)) (now («delta_ts» .entry)) (now (labels .entry)) (now (weights .entry))) (length (now (gw .entry))) (length (now (records .entry)))) × (now (gw .exit) ≡ batchSlots (now (w .entry)) (prefixesOf (now («t_hist» .entry)) (now («r_hist» .entry)) «seq_len» batch (now («seq_lens» .entry)) (now («delta_ts» .entry)) (now (labels .entry)) (now (weights .entry))) (now (gw .entry)) (length (now (records .entry)))) × (now (records .exit) ≡ batchRecords (now (w .entry)) (prefixesOf (now («t_hist» .entry)) (now («r_hist» .entry)) «seq_len» batch (now («seq_lens» .entry)) (now («delta_ts» .entry)) (now (labels .entry)) (now (weights .entry))) (length (now (gw .entry))) (now (records .entry))) ⌝ }
 {
     let slots = gw.len();
     let space = room(records);
