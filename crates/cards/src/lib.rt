@@ -180,16 +180,7 @@ pub fn card_loss(
 ) -> Loss
     ensures { λ r. ⌜ r ≡ cardsLoss (now (w .entry)) (cardsOf (now («t_hist» .entry)) (now («r_hist» .entry)) «seq_len» batch (now («seq_lens» .entry)) (now (labels .entry)) (now (weights .entry))) ⌝ }
 {
-    let n = card_loss_refusal(
-        w,
-        t_hist,
-        r_hist,
-        seq_len,
-        batch,
-        seq_lens,
-        labels,
-        weights,
-    );
+    let n = card_loss_refusal(w, t_hist, r_hist, seq_len, batch, seq_lens, labels, weights);
     if n != 0 {
         return Loss {
             refusal: n,
@@ -198,16 +189,7 @@ pub fn card_loss(
     }
     let v = copy_weights(w);
     let p = runtime_params(&v);
-    let loss = batch_total(
-        p,
-        t_hist,
-        r_hist,
-        seq_len,
-        batch,
-        seq_lens,
-        labels,
-        weights,
-    );
+    let loss = batch_total(p, t_hist, r_hist, seq_len, batch, seq_lens, labels, weights);
     Loss { refusal: 0, loss }
 }
 

@@ -1,9 +1,9 @@
 -- Which refusal comes of the tests, each in its turn. Assumes nothing.
 use Prim.Native.Nat.{ℕ}
-use mathlib.Core.Bool.{Bool, true, false}
+use mathlib.Core.Bool.{Bool, true, false, cond}
 use mathlib.Core.List.{List}
 use mathlib.Core.Path.{_≡_, refl, sym, _∙_, subst}
-use borrow.Author.Tests.{eq-eqb, ne-eqb}
+use borrow.Author.Tests.{eq-eqb, ne-eqb, eqb-true}
 use lib.Dec.{T, eqb}
 use lib.Ieee.{Float}
 use Rattle.reads.specs.Reads.{check, first}
@@ -70,3 +70,35 @@ module _ (w : List Float) (n : ℕ) (weights : n ≡ weightsRefusal w) where
         pub grad-fault : (room : Bool) (fault : ℕ) → room ≡ true → fault ≡ gradRefusal w slots sized room fault
         unfolding gradRefusal
         grad-fault room fault e = rw (← weights) (sym (first-none n _ z ∙ passed slots 5 _ s ∙ passed sized 3 _ t ∙ passed room 4 fault e))
+
+-- what an accepted call has passed
+none-first : (a b : ℕ) (t : Bool) → t ≡ eqb a 0 → cond t b a ≡ 0 → (a ≡ 0) × (b ≡ 0)
+none-first a b true e h = (eqb-true a 0 (sym e), h)
+none-first a b false e h = absurd (subst T (sym (e ∙ eq-eqb a 0 h)) tt)
+
+first-zero : (a b : ℕ) → first a b ≡ 0 → (a ≡ 0) × (b ≡ 0)
+unfolding first
+first-zero a b h = none-first a b (eqb a 0) refl h
+
+check-zero : (good : Bool) (n : ℕ) → (n ≡ 0 → ⊥) → check true good n ≡ 0 → good ≡ true
+unfolding check
+check-zero true n h e = refl
+check-zero false n h e = absurd (h e)
+
+pub loss-accepted : (w : List Float) (sized : Bool) (fault : ℕ) → lossRefusal w sized fault ≡ 0 → (weightsRefusal w ≡ 0) × (sized ≡ true) × (fault ≡ 0)
+unfolding lossRefusal
+loss-accepted w sized fault e =
+    let a = first-zero (weightsRefusal w) _ e in
+    let b = first-zero (check true sized 3) fault (a .1) in
+    (a .0, check-zero sized 3 three (b .0), b .1)
+
+pub grad-accepted :
+    (w : List Float) (slots sized room : Bool) (fault : ℕ) → gradRefusal w slots sized room fault ≡ 0 →
+    (weightsRefusal w ≡ 0) × (slots ≡ true) × (sized ≡ true) × (room ≡ true) × (fault ≡ 0)
+unfolding gradRefusal
+grad-accepted w slots sized room fault e =
+    let a = first-zero (weightsRefusal w) _ e in
+    let b = first-zero (check true slots 5) _ (a .1) in
+    let c = first-zero (check true sized 3) _ (b .1) in
+    let d = first-zero (check true room 4) fault (c .1) in
+    (a .0, check-zero slots 5 five (b .0), check-zero sized 3 three (c .0), check-zero room 4 four (d .0), d .1)

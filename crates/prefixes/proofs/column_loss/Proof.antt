@@ -23,7 +23,8 @@ target-loss-requires c κs = search needs
 
 returns : tie.Need-returns
 unfolding prefixLoss
-returns c = cc
+returns c =
+    rw (c .target-loss .ensures, c .before .read3 .ensures, c .before .before .read2 .ensures, c .before .before .before .read .ensures, c .before .before .before .before .run-path .ensures, c .before .before .before .before .before .cut-length .ensures)
 
 pub column-loss-spec : {M : Type 1} → statement M
 column-loss-spec =

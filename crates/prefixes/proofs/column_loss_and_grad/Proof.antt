@@ -1,3 +1,7 @@
+use mathlib.Core.List.{[], _∷_}
+use Rattle.domain.specs.Doubles.{zero64}
+use mathlib.Core.Path.{_∙_}
+use Rattle.prefixes.proofs.Columns.{unscored, loss-of, slots-of, records-of}
 use borrow.Author.Needs.{needs}
 use Rattle.prefixes.proofs.column_loss_and_grad.Statement.{statement}
 use Rattle.prefixes.proofs.column_loss_and_grad.Tie as tie
@@ -33,7 +37,12 @@ same-length-2 : tie.Need-same-length-2
 same-length-2 c = search needs
 
 returns : tie.Need-returns
-returns c = cc
+returns c = (
+  (rw (c .before .before .before .before .before .before .before .before .target-end .ensures .0) (loss-of _ _ _ _ (c .before .before .before .before .before .before .before .before .before .before .before .before .before .before .before .before .before .cut-length .ensures) _ _ _ _ (c .before .before .before .before .before .before .before .before .before .before .before .before .before .before .before .run-stored .ensures .0) (c .before .before .before .before .before .before .before .before .before .before .before .before .read .ensures) (c .before .before .before .before .before .before .before .before .before .before .before .read2 .ensures) (c .before .before .before .before .before .before .before .before .before .before .read3 .ensures))),
+  (rw (c .before .before .walk-back .ensures, c .before .before .before .before .before .before .before .before .target-end .ensures .0, c .before .before .before .before .before .before .before .before .target-end .ensures .1, c .before .before .before .before .before .before .before .before .before .before .before .before .before .before .before .run-stored .ensures .1)
+      (slots-of _ _ _ _ (c .before .before .before .before .before .before .before .before .before .before .before .before .before .before .before .before .before .cut-length .ensures) _ _ _ _ (c .before .before .before .before .before .before .before .before .before .before .before .before .before .before .before .run-stored .ensures .0) (c .before .before .before .before .before .before .before .before .before .before .before .before .read .ensures) (c .before .before .before .before .before .before .before .before .before .before .before .read2 .ensures) (c .before .before .before .before .before .before .before .before .before .before .read3 .ensures) _ _ (zero64 ∷ []) (c .before .before .before .before .before .before .before .before .before .before .before .before .before .before .before .before .before .before .before .before .before .before .before .before .before .before .pre) unscored)),
+  c .before .before .before .before .before .before .before .before .before .before .before .before .before .before .before .run-stored .ensures .1 ∙ records-of _ _ _ _ (c .before .before .before .before .before .before .before .before .before .before .before .before .before .before .before .before .before .cut-length .ensures) _,
+)
 
 pub column-loss-and-grad-spec : {M : Type 1} → statement M
 column-loss-and-grad-spec =
