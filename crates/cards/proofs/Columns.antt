@@ -14,7 +14,7 @@ use Rattle.branches.specs.declared.params.RuntimeParams.{RuntimeParams}
 use Rattle.tables.specs.Batch.{Cards, lengthAt, at}
 use Rattle.records.specs.Records.{roomDef, loadDef}
 use Rattle.passes.specs.Back.{startGrad, backDef}
-use Rattle.passes.specs.Ends.{lastLoss, lastGrad, lastSlots}
+use Rattle.ends.specs.Ends.{lastLoss, lastGrad, lastSlots}
 use Rattle.passes.specs.Path.{recordAt, storedDef, scoreAt, runAt, gradsDef}
 use Rattle.passes.specs.declared.path.Run.{Run}
 use Rattle.passes.proofs.Kept.{path-read, grads-read, back-same}

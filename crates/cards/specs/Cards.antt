@@ -12,9 +12,9 @@ use Rattle.tables.specs.Batch.{Cards, lengthAt, at}
 use Rattle.checks.specs.Refusals.{cardLossRefusal, cardGradRefusal}
 use Rattle.records.specs.Records.{roomDef}
 use Rattle.passes.specs.Back.{startGrad, backDef}
-use Rattle.passes.specs.Ends.{lastLoss, lastGrad, lastSlots, answer}
+use Rattle.ends.specs.Ends.{lastLoss, lastGrad, lastSlots, answer}
 use Rattle.passes.specs.Path.{stateAt, recordAt, storedDef, scoreAt, lossAt, gradsDef}
-use Rattle.passes.specs.declared.ends.Loss.{Loss}
+use Rattle.ends.specs.declared.Loss.{Loss}
 
 -- card_column_loss_and_grad, for one column
 module _ (p : RuntimeParams) (x : Cards) (column : ℕ) where

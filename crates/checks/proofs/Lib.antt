@@ -1,4 +1,2 @@
-pub mod First
 pub mod Longest
 pub mod Orders
-pub mod Rows

@@ -8,7 +8,7 @@ use lib.ListN.{length}
 use Rattle.reads.specs.Reads.{check, first}
 use Rattle.weights.specs.Weights.{weightsRefusal}
 use Rattle.tables.specs.Batch.{Table, Prefixes, Cards}
-use Rattle.checks.specs.Faults.{prefixFault, cardFault}
+use Rattle.faults.specs.Faults.{prefixFault, cardFault}
 use Rattle.checks.specs.Sizes.{longestDef, prefixSized, cardSized}
 
 -- 'a loss-only entry .. lends no records, step gradients or slots, so it never gives 4 or 5'

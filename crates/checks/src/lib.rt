@@ -1,5 +1,4 @@
-// The checks of a loss call, all before its first write. Each finds the first fault in document 01's order, with its place.
+// The checks of a loss call, all before its first write: sizes, then the cells that it reads.
 pub mod card;
-mod faults;
 pub mod prefix;
 pub mod sizes;

@@ -12,9 +12,9 @@ use Rattle.branches.specs.declared.stability.State.{State}
 use Rattle.tables.specs.Batch.{Prefixes, lengthAt}
 use Rattle.records.specs.Records.{roomDef, loadDef}
 use Rattle.passes.specs.Back.{startGrad, backDef}
-use Rattle.passes.specs.Ends.{targetLoss, targetGrad, targetSlots}
+use Rattle.ends.specs.Ends.{targetLoss, targetGrad, targetSlots}
 use Rattle.passes.specs.Path.{stateAt, recordAt, storedDef}
-use Rattle.passes.specs.declared.ends.Ending.{Ending}
+use Rattle.ends.specs.declared.Ending.{Ending}
 use Rattle.passes.proofs.Kept.{path-length, path-read, back-same}
 use Rattle.prefixes.specs.Prefixes.{prefixLoss, prefixSlots, prefixRecords, lossTo, slotsTo, recordsTo}
 

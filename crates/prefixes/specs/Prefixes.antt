@@ -13,9 +13,9 @@ use Rattle.tables.specs.Batch.{Prefixes, lengthAt}
 use Rattle.checks.specs.Refusals.{prefixLossRefusal, prefixGradRefusal}
 use Rattle.records.specs.Records.{roomDef}
 use Rattle.passes.specs.Back.{startGrad, backDef}
-use Rattle.passes.specs.Ends.{targetLoss, targetGrad, targetSlots, answer}
+use Rattle.ends.specs.Ends.{targetLoss, targetGrad, targetSlots, answer}
 use Rattle.passes.specs.Path.{stateAt, recordAt, storedDef}
-use Rattle.passes.specs.declared.ends.Loss.{Loss}
+use Rattle.ends.specs.declared.Loss.{Loss}
 
 -- prefix_loss_and_grad, for one column
 module _ (p : RuntimeParams) (x : Prefixes) (column : ℕ) where

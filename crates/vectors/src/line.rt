@@ -6,6 +6,12 @@ struct Field {
     flaw: u64,
 }
 
+// A word, and where its digits end.
+struct FreeField {
+    value: u64,
+    end: usize,
+}
+
 // Fills `line` from standard input. Whether there was anything left to read.
 pub fn read_line(line: &mut [u8]) -> bool {
     io::read_full(0, line) != 0
@@ -58,6 +64,64 @@ pub fn read_words(line: &[u8], digits: usize, words: &mut [u64]) -> bool {
         i += 1;
     }
     (flaw | differs(byte_at(line, at), b'\n')) == 0
+}
+
+// The next byte of standard input, or 0 where nothing is left.
+fn read_byte() -> u8 {
+    let mut byte = [0u8; 1];
+    io::read_full(0, &mut byte);
+    byte[0]
+}
+
+// Fills `line` from standard input with one line of any length and its end, or with as much as fits.
+// Whether there was anything left to read.
+pub fn read_free_line(line: &mut [u8]) -> bool {
+    let mut i = 0;
+    while i < line.len() {
+        let b = read_byte();
+        line[i] = b;
+        if b == 0 {
+            return i != 0;
+        }
+        if b == b'\n' {
+            return true;
+        }
+        i += 1;
+    }
+    true
+}
+
+// The digits from `at` on, of which the last 16 count.
+fn free_word(line: &[u8], at: usize) -> FreeField {
+    let mut value = 0;
+    let mut end = at;
+    while end < line.len() {
+        let d = digit(line[end]);
+        if d == 16 {
+            return FreeField { value, end };
+        }
+        value = (value << 4) | d;
+        end += 1;
+    }
+    FreeField { value, end }
+}
+
+// Fills `words` from what follows the letter, each of any number of digits. How many they are, or 0
+// where the line is malformed or has more than fit.
+pub fn read_free_words(line: &[u8], words: &mut [u64]) -> usize {
+    let mut at = 1;
+    let mut i = 0;
+    while i < words.len() && byte_at(line, at) == b' ' {
+        let start = std::num::wrapping_add_usize(at, 1);
+        let field = free_word(line, start);
+        if field.end == start {
+            return 0;
+        }
+        words[i] = field.value;
+        at = field.end;
+        i += 1;
+    }
+    if byte_at(line, at) == b'\n' { i } else { 0 }
 }
 
 pub fn is_remark(letter: u8) -> bool {

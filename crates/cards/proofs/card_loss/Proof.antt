@@ -1,4 +1,4 @@
-use Rattle.passes.proofs.Answer.{answer-refused, answer-accepted, copied}
+use Rattle.ends.proofs.Answer.{answer-refused, answer-accepted, copied}
 use Rattle.cards.proofs.Entry.{loss-weights}
 use Rattle.cards.specs.Cards.{cardsLoss}
 use borrow.Author.Needs.{needs}

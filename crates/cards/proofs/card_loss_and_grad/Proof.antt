@@ -1,4 +1,4 @@
-use Rattle.passes.proofs.Answer.{answer-refused, answer-accepted, kept, moved, copied}
+use Rattle.ends.proofs.Answer.{answer-refused, answer-accepted, kept, moved, copied}
 use Rattle.cards.proofs.Entry.{grad-weights, grad-room}
 use Rattle.cards.specs.Cards.{cardsLossAndGrad, cardsSlots, cardsRecords, cardsGrads}
 use borrow.Author.Needs.{needs}

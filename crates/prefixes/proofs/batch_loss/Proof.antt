@@ -1,4 +1,4 @@
-use Rattle.passes.proofs.Answer.{answer-refused, answer-accepted, copied}
+use Rattle.ends.proofs.Answer.{answer-refused, answer-accepted, copied}
 use Rattle.prefixes.proofs.Entry.{loss-weights}
 use Rattle.prefixes.specs.Prefixes.{batchLoss}
 use borrow.Author.Needs.{needs}

@@ -1,4 +1,4 @@
-use Rattle.passes.proofs.Answer.{answer-refused, answer-accepted, kept, moved, copied}
+use Rattle.ends.proofs.Answer.{answer-refused, answer-accepted, kept, moved, copied}
 use Rattle.prefixes.proofs.Entry.{grad-weights, grad-room}
 use Rattle.prefixes.specs.Prefixes.{batchLossAndGrad, batchSlots, batchRecords}
 use borrow.Author.Needs.{needs}

@@ -23,7 +23,7 @@ both-requires c κs = search needs
 
 returns : tie.Need-returns
 unfolding cardDay
-returns c = cc
+returns c = rw (c .both .ensures, c .before .pick .ensures, c .before .before .is-nonzero2 .ensures, c .before .before .before .is-nonzero .ensures, c .before .before .before .before .is-last .ensures, c .before .before .before .before .before .is-later .ensures)
 
 pub card-day-spec : {M : Type 1} → statement M
 card-day-spec =

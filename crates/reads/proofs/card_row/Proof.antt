@@ -32,7 +32,7 @@ first-requires-2 c κs = search needs
 
 returns : tie.Need-returns
 unfolding cardRow cardRating
-returns c = cc
+returns c = rw (c .first2 .ensures, c .before .first .ensures, c .before .before .card-score .ensures, c .before .before .before .check2 .ensures, c .before .before .before .before .is-day .ensures, c .before .before .before .before .before .card-day .ensures, c .before .before .before .before .before .before .check .ensures, c .before .before .before .before .before .before .before .is-rating .ensures, c .before .before .before .before .before .before .before .before .is-last .ensures)
 
 pub card-row-spec : {M : Type 1} → statement M
 card-row-spec =

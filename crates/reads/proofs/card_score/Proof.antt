@@ -29,7 +29,7 @@ first-requires c κs = search needs
 
 returns : tie.Need-returns
 unfolding cardScore cardLabel
-returns c = cc
+returns c = rw (c .first .ensures, c .before .check2 .ensures, c .before .before .is-label .ensures, c .before .before .before .check .ensures, c .before .before .before .before .is-weight .ensures, c .before .before .before .before .before .both .ensures, c .before .before .before .before .before .before .is-nonzero .ensures, c .before .before .before .before .before .before .before .is-later .ensures)
 
 pub card-score-spec : {M : Type 1} → statement M
 card-score-spec =

@@ -15,7 +15,7 @@ either-requires-4 : tie.Need-either-requires-4
 either-requires-4 c κs = search needs
 
 returns : tie.Need-returns
-returns c = cc
+returns c = rw (c .either4 .ensures, c .before .either3 .ensures, c .before .before .either2 .ensures, c .before .before .before .either .ensures)
 
 pub is-rating-spec : {M : Type 1} → statement M
 is-rating-spec =

@@ -9,7 +9,7 @@ read-requires : tie.Need-read-requires
 read-requires c κs = search needs
 
 returns : tie.Need-returns
-returns c = cc
+returns c = rw (c .read .ensures, c .before .place-of .ensures)
 
 pub get-spec : {M : Type 1} → statement M
 get-spec = tie.close (tie.spec place-of-requires read-requires returns)

@@ -8,7 +8,7 @@ choose-requires c κs = search needs
 
 returns : tie.Need-returns
 unfolding chosenCells
-returns c = cc
+returns c = rw (c .choose .ensures)
 
 pub with-numbers-spec : {M : Type 1} → statement M
 with-numbers-spec = tie.close (tie.spec choose-requires returns)

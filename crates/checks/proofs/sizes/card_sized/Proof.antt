@@ -17,7 +17,7 @@ both-requires-2 c κs = search needs
 
 returns : tie.Need-returns
 unfolding cardSized
-returns c = cc
+returns c = rw (c .both2 .ensures, c .before .both .ensures, c .before .before .table-sized .ensures, c .before .before .before .table-cells .ensures)
 
 pub card-sized-spec : {M : Type 1} → statement M
 card-sized-spec =

@@ -17,7 +17,7 @@ both-requires-3 c κs = search needs
 
 returns : tie.Need-returns
 unfolding prefixSized
-returns c = cc
+returns c = rw (c .both3 .ensures, c .before .both2 .ensures, c .before .before .both .ensures, c .before .before .before .table-sized .ensures)
 
 pub prefix-sized-spec : {M : Type 1} → statement M
 prefix-sized-spec =

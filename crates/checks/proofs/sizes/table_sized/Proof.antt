@@ -20,7 +20,7 @@ both-requires-4 c κs = search needs
 
 returns : tie.Need-returns
 unfolding tableSized
-returns c = cc
+returns c = rw (c .both4 .ensures, c .before .both3 .ensures, c .before .before .both2 .ensures, c .before .before .before .both .ensures, c .before .before .before .before .table-cells .ensures)
 
 pub table-sized-spec : {M : Type 1} → statement M
 table-sized-spec =

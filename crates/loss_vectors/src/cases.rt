@@ -1,0 +1,150 @@
+// A line's call over the weights and the starting slots that lines above it set, and over records and step
+// gradients of its own. After its slices it has seven words: how many records are lent and the pattern of
+// the first, the same of the step gradients, and the answer.
+use crate::answers::digest;
+use crate::answers::is_answer;
+use crate::calls::Places;
+use crate::calls::call;
+use crate::calls::first_of;
+use crate::words::after;
+use crate::words::count_doubles;
+use crate::words::count_singles;
+use crate::words::length_at;
+use crate::words::set_doubles;
+use crate::words::set_singles;
+use crate::words::word_at;
+
+fn places(k: &[u64; 640]) -> Places {
+    let days = 2;
+    let ratings = after(k, days);
+    let lengths = after(k, ratings);
+    let targets = after(k, lengths);
+    let labels = after(k, targets);
+    let weights = after(k, labels);
+    let rest = after(k, weights);
+    Places {
+        days,
+        ratings,
+        lengths,
+        targets,
+        labels,
+        weights,
+        rest,
+    }
+}
+
+// A word after the slices.
+fn rest_at(k: &[u64; 640], p: Places, i: usize) -> u64 {
+    word_at(k, std::num::wrapping_add_usize(p.rest, i))
+}
+
+// Whether n words are a call.
+pub fn is_call(k: &[u64; 640], n: usize) -> bool {
+    let p = places(k);
+    n != 0 && std::num::wrapping_add_usize(p.rest, 7) == n
+}
+
+fn is_passed(
+    row: usize,
+    k: &[u64; 640],
+    p: Places,
+    w: &[f32],
+    slots: &mut [f64],
+    records: &mut [f32],
+    grads: &mut [f64],
+) -> bool {
+    let q = call(row, k, p, w, slots, records, grads);
+    is_answer(q, rest_at(k, p, 4), rest_at(k, p, 5))
+        && digest(slots, records, grads) == rest_at(k, p, 6)
+}
+
+// Lends the step gradients that the line asks for. A line that asks for more than there are fails.
+fn lend_grads(
+    row: usize,
+    k: &[u64; 640],
+    p: Places,
+    w: &[f32],
+    slots: &mut [f64],
+    records: &mut [f32],
+    grads: &mut [f64],
+) -> bool {
+    let n = rest_at(k, p, 2) as usize;
+    if grads.len() < n {
+        return false;
+    }
+    is_passed(row, k, p, w, slots, records, &mut grads[0..n])
+}
+
+fn lend_records(
+    row: usize,
+    k: &[u64; 640],
+    p: Places,
+    w: &[f32],
+    slots: &mut [f64],
+    records: &mut [f32],
+    grads: &mut [f64],
+) -> bool {
+    let n = rest_at(k, p, 0) as usize;
+    if records.len() < n {
+        return false;
+    }
+    lend_grads(row, k, p, w, slots, &mut records[0..n], grads)
+}
+
+// The loss alone is lent no slots.
+fn lend_slots(
+    row: usize,
+    k: &[u64; 640],
+    p: Places,
+    w: &[f32],
+    given: usize,
+    slots: &mut [f64],
+    records: &mut [f32],
+    grads: &mut [f64],
+) -> bool {
+    let n = if row % 2 == 0 { given } else { 0 };
+    if slots.len() < n {
+        return false;
+    }
+    lend_records(row, k, p, w, &mut slots[0..n], records, grads)
+}
+
+// As slices, so that parts of them can be lent.
+fn lend(
+    row: usize,
+    k: &[u64; 640],
+    weights: &[f32; 128],
+    weights_given: usize,
+    slots: &mut [f64; 64],
+    slots_given: usize,
+    records: &mut [f32; 640],
+    grads: &mut [f64; 64],
+) -> bool {
+    let w = first_of(weights, weights_given);
+    lend_slots(row, k, places(k), w, slots_given, slots, records, grads)
+}
+
+pub fn passes(row: usize, k: &[u64; 640], weights: &[u64; 640], slots: &[u64; 640]) -> bool {
+    if 3 < row {
+        return false;
+    }
+    let p = places(k);
+    let mut w = [0.0f32; 128];
+    set_singles(weights, 0, &mut w);
+    let mut g = [0.0f64; 64];
+    set_doubles(slots, 0, &mut g);
+    let mut records = [0.0f32; 640];
+    count_singles(rest_at(k, p, 1), &mut records);
+    let mut grads = [0.0f64; 64];
+    count_doubles(rest_at(k, p, 3), &mut grads);
+    lend(
+        row,
+        k,
+        &w,
+        length_at(weights, 0),
+        &mut g,
+        length_at(slots, 0),
+        &mut records,
+        &mut grads,
+    )
+}
