@@ -16,7 +16,7 @@ use Rattle.records.specs.Records.{roomDef, loadDef}
 use Rattle.passes.specs.Back.{startGrad, backDef}
 use Rattle.ends.specs.Ends.{lastLoss, lastGrad, lastSlots}
 use Rattle.passes.specs.Path.{recordAt, storedDef, scoreAt, runAt, gradsDef}
-use Rattle.passes.specs.declared.path.Run.{Run}
+use Rattle.passes.specs.declared.scored.Run.{Run}
 use Rattle.passes.proofs.Kept.{path-read, grads-read, back-same}
 use Rattle.cards.specs.Cards.{cardLoss, cardSlots, cardRecords, cardGrads, lossTo, slotsTo, recordsTo, gradsTo}
 

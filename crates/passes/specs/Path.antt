@@ -16,7 +16,7 @@ use Rattle.forward.specs.declared.step.Stepped.{Stepped}
 use Rattle.records.specs.Records.{storeDef}
 use Rattle.scores.specs.Scores.{noScore, scoreDef}
 use Rattle.scores.specs.declared.Score.{Score}
-use Rattle.passes.specs.declared.path.Run.{Run}
+use Rattle.passes.specs.declared.scored.Run.{Run}
 
 -- if t == 0 { (0.0, 0.0) } else { bce_loss_and_grad_r(cache.retrievability, labels[idx], weights[idx]) }
 unfoldable pub rowScore : (row : ℕ) (r label weight : Float) → Score

@@ -1,21 +1,11 @@
-// The state's path down a column, from (0, 0). A card's rows are scored on the way, each by the state before its review.
+// The state's path down a column, from (0, 0).
 ghost use mathlib.Core.Path.{_≡_};
-ghost use Rattle.passes.specs.Path.{stateAt, storedDef, rowScore, runAt, gradsDef};
+ghost use Rattle.passes.specs.Path.{stateAt};
 use branches::params::RuntimeParams;
 use branches::stability::State;
 use forward::step::step_forward;
-use records::store_step;
-use scores::Score;
-use scores::bce_loss_and_grad_r;
 use tables::cell_of;
 use tables::read;
-use tables::write_f64;
-
-// The state after the rows so far, and their loss.
-pub struct Run {
-    pub state: State,
-    pub loss: f64,
-}
 
 pub fn run_path(
     p: RuntimeParams,
@@ -38,112 +28,4 @@ pub fn run_path(
         i += 1;
     }
     q
-}
-
-// The same, with each step's record stored in its row.
-pub fn run_stored(
-    p: RuntimeParams,
-    t_hist: &[f32],
-    r_hist: &[f32],
-    batch: u32,
-    column: u32,
-    n: u32,
-    records: &mut [f32],
-) -> State
-    ensures { λ r. ⌜ (r ≡ stateAt p (now («t_hist» .entry)) (now («r_hist» .entry)) batch column n) × (now (records .exit) ≡ storedDef p (now («t_hist» .entry)) (now («r_hist» .entry)) batch column n (now (records .entry))) ⌝ }
-{
-    let mut q = State { s: 0.0, d: 0.0 };
-    let mut i = 0;
-    while i < n {
-        let k = cell_of(i, batch, column);
-        let day = read(t_hist, k);
-        let rating = read(r_hist, k);
-        let next = step_forward(p, q, day, rating, i as usize);
-        let step = next.step;
-        store_step(records, i, step);
-        q = next.state;
-        i += 1;
-    }
-    q
-}
-
-// Row 0 has no state before it to score.
-fn row_score(row: u32, r: f32, label: f32, weight: f32) -> Score
-    ensures { λ q. ⌜ q ≡ rowScore row r label weight ⌝ }
-{
-    if row == 0 {
-        return Score {
-            loss: 0.0,
-            g_r: 0.0,
-        };
-    }
-    bce_loss_and_grad_r(r, label, weight)
-}
-
-pub fn run_scored(
-    p: RuntimeParams,
-    t_hist: &[f32],
-    r_hist: &[f32],
-    batch: u32,
-    labels: &[f32],
-    weights: &[f32],
-    column: u32,
-    n: u32,
-) -> Run
-    ensures { λ r. ⌜ r ≡ runAt p (now («t_hist» .entry)) (now («r_hist» .entry)) batch column (now (labels .entry)) (now (weights .entry)) n ⌝ }
-{
-    let mut q = State { s: 0.0, d: 0.0 };
-    let mut loss = 0.0;
-    let mut i = 0;
-    while i < n {
-        let k = cell_of(i, batch, column);
-        let day = read(t_hist, k);
-        let rating = read(r_hist, k);
-        let label = read(labels, k);
-        let weight = read(weights, k);
-        let next = step_forward(p, q, day, rating, i as usize);
-        let step = next.step;
-        let score = row_score(i, step.retrievability, label, weight);
-        loss = loss + score.loss;
-        q = next.state;
-        i += 1;
-    }
-    Run { state: q, loss }
-}
-
-// The same, with each step's record and gradient stored in its row.
-pub fn run_scored_stored(
-    p: RuntimeParams,
-    t_hist: &[f32],
-    r_hist: &[f32],
-    batch: u32,
-    labels: &[f32],
-    weights: &[f32],
-    column: u32,
-    n: u32,
-    records: &mut [f32],
-    step_grads: &mut [f64],
-) -> Run
-    ensures { λ r. ⌜ (r ≡ runAt p (now («t_hist» .entry)) (now («r_hist» .entry)) batch column (now (labels .entry)) (now (weights .entry)) n) × (now (records .exit) ≡ storedDef p (now («t_hist» .entry)) (now («r_hist» .entry)) batch column n (now (records .entry))) × (now («step_grads» .exit) ≡ gradsDef p (now («t_hist» .entry)) (now («r_hist» .entry)) batch column (now (labels .entry)) (now (weights .entry)) n (now («step_grads» .entry))) ⌝ }
-{
-    let mut q = State { s: 0.0, d: 0.0 };
-    let mut loss = 0.0;
-    let mut i = 0;
-    while i < n {
-        let k = cell_of(i, batch, column);
-        let day = read(t_hist, k);
-        let rating = read(r_hist, k);
-        let label = read(labels, k);
-        let weight = read(weights, k);
-        let next = step_forward(p, q, day, rating, i as usize);
-        let step = next.step;
-        let score = row_score(i, step.retrievability, label, weight);
-        let g_r = score.g_r;
-        store_step(records, i, step);
-        write_f64(step_grads, i as usize, g_r);
-        loss = loss + score.loss;
-        q = next.state;
-        i += 1;
-    }
-    Run { state: q, loss }
 }

@@ -42,20 +42,20 @@ pub fn write(xs: &mut [f32], k: usize, x: f32)
 }
 
 // Past the end +0.0.
-pub fn read_f64(xs: &[f64], k: usize) -> f64
-    ensures { λ r. ⌜ r ≡ getD (now (xs .entry)) k zero64 ⌝ }
+pub fn read_f64(ys: &[f64], k: usize) -> f64
+    ensures { λ r. ⌜ r ≡ getD (now (ys .entry)) k zero64 ⌝ }
 {
-    if k < xs.len() {
-        return xs[k];
+    if k < ys.len() {
+        return ys[k];
     }
     0.0
 }
 
-pub fn write_f64(xs: &mut [f64], k: usize, x: f64)
-    ensures { λ r. ⌜ now (xs .exit) ≡ set (now (xs .entry)) k x ⌝ }
+pub fn write_f64(ys: &mut [f64], k: usize, y: f64)
+    ensures { λ r. ⌜ now (ys .exit) ≡ set (now (ys .entry)) k y ⌝ }
 {
-    if k < xs.len() {
-        xs[k] = x;
+    if k < ys.len() {
+        ys[k] = y;
     }
 }
 

@@ -14,10 +14,10 @@ shared-slice-read-result : tie.Need-shared-slice-read-result
 shared-slice-read-result c = search needs
 
 returns : tie.Need-returns
-returns c = within (c .before .before .args .xs .now) (c .before .before .args .k) nan zero64 (c .before .if1 .taken)
+returns c = within (c .before .before .args .ys .now) (c .before .before .args .k) nan zero64 (c .before .if1 .taken)
 
 returns-2 : tie.Need-returns-2
-returns-2 c = sym (List·getD-eq-default (c .before .args .xs .now) zero64 (c .if1 .left))
+returns-2 c = sym (List·getD-eq-default (c .before .args .ys .now) zero64 (c .if1 .left))
 
 pub read-f64-spec : {M : Type 1} → statement M
 read-f64-spec = tie.close (tie.spec mul-result shared-slice-read-result returns returns-2)

@@ -4,11 +4,11 @@ use borrow.Author.Needs.{needs}
 use Rattle.tables.proofs.write_f64.Statement.{statement}
 use Rattle.tables.proofs.write_f64.Tie as tie
 
-mul-xs : tie.Need-mul-xs
-mul-xs c = search needs
+mul-ys : tie.Need-mul-ys
+mul-ys c = search needs
 
-slice-write-xs : tie.Need-slice-write-xs
-slice-write-xs c = search needs
+slice-write-ys : tie.Need-slice-write-ys
+slice-write-ys c = search needs
 
 same-length : tie.Need-same-length
 same-length c = search needs
@@ -20,4 +20,4 @@ returns-2 : tie.Need-returns-2
 returns-2 c = sym (set-out _ _ _ (c .if1 .left))
 
 pub write-f64-spec : {M : Type 1} → statement M
-write-f64-spec = tie.close (tie.spec mul-xs slice-write-xs same-length returns returns-2)
+write-f64-spec = tie.close (tie.spec mul-ys slice-write-ys same-length returns returns-2)
