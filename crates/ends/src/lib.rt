@@ -48,10 +48,10 @@ pub fn target_end(
         };
     }
     let curve = curve_forward(p.curve_decay, p.curve_factor, day, s);
-    let score = bce_loss_and_grad_r(curve.retrievability, label, weight);
+    let scored = bce_loss_and_grad_r(curve.retrievability, label, weight);
     let slope = p.curve_dfactor_ddecay;
-    let loss = score.loss;
-    let g_s = curve_backward(slope, curve, score.g_r, gw);
+    let loss = scored.loss;
+    let g_s = curve_backward(slope, curve, scored.g_r, gw);
     Ending { loss, g_s }
 }
 

@@ -122,9 +122,7 @@ pub fn target(weight: f32, label: f32, day: f32) -> u32
     ensures { λ r. ⌜ r ≡ targetDef weight label day ⌝ }
 {
     let counts = is_nonzero(weight);
-    let rest = first(
-        check(counts, is_label(label), 8),
-        check(counts, is_day(day), 7),
-    );
-    first(check(true, is_weight(weight), 8), rest)
+    let label_bad = check(counts, is_label(label), 8);
+    let day_bad = check(counts, is_day(day), 7);
+    first(check(true, is_weight(weight), 8), first(label_bad, day_bad))
 }
