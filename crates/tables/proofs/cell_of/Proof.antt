@@ -1,17 +1,15 @@
 use mathlib.Core.Path.{refl}
-use native.Mathlib.Nat.{lt-of-le-of-lt, le-add-right}
 use borrow.Author.Needs.{needs}
 use Rattle.tables.specs.Tables.{cell}
-use Rattle.tables.proofs.Fits.{cell-fits}
+use Rattle.tables.proofs.Fits.{cell-fits, product-fits}
 use Rattle.tables.proofs.cell_of.Statement.{statement}
 use Rattle.tables.proofs.cell_of.Tie as tie
 
 mul-result : tie.Need-mul-result
-mul-result c =
-    record { fits = lt-of-le-of-lt (le-add-right _ _) (cell-fits (c .args .row) (c .args .columns) (c .args .column) (search needs) (search needs) (search needs)) }
+mul-result c = record { fits = product-fits _ _ (search needs) (search needs) }
 
 add-result : tie.Need-add-result
-add-result c = record { fits = cell-fits (c .args .row) (c .args .columns) (c .args .column) (search needs) (search needs) (search needs) }
+add-result c = record { fits = cell-fits _ _ _ (search needs) (search needs) (search needs) }
 
 returns : tie.Need-returns
 unfolding cell

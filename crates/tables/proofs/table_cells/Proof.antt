@@ -1,12 +1,10 @@
-use Prim.Native.Nat.{zero}
-use native.Mathlib.Nat.{lt-of-le-of-lt, le-add-right}
 use borrow.Author.Needs.{needs}
-use Rattle.tables.proofs.Fits.{cell-fits}
+use Rattle.tables.proofs.Fits.{product-fits}
 use Rattle.tables.proofs.table_cells.Statement.{statement}
 use Rattle.tables.proofs.table_cells.Tie as tie
 
 mul-result : tie.Need-mul-result
-mul-result c = record { fits = lt-of-le-of-lt (le-add-right _ _) (cell-fits (c .args .rows) (c .args .columns) 0 (search needs) (search needs) (search needs)) }
+mul-result c = record { fits = product-fits _ _ (search needs) (search needs) }
 
 returns : tie.Need-returns
 returns c = search needs
