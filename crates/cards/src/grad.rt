@@ -36,7 +36,7 @@ fn column_loss_and_grad(
     step_grads: &mut [f64],
 ) -> f64
     requires { ⌜ (cutAt (now «seq_lens») «seq_len» column ≤ roomDef (length (now records))) × (cutAt (now «seq_lens») «seq_len» column ≤ length (now «step_grads»)) ⌝ }
-    ensures { λ r. ⌜ (r ≡ cardLoss p (cardsOf (now («t_hist» .entry)) (now («r_hist» .entry)) «seq_len» batch (now («seq_lens» .entry)) (now (labels .entry)) (now (weights .entry))) column) × (now (gw .exit) ≡ cardSlots p (cardsOf (now («t_hist» .entry)) (now («r_hist» .entry)) «seq_len» batch (now («seq_lens» .entry)) (now (labels .entry)) (now (weights .entry))) column (now (gw .entry))) × (now (records .exit) ≡ cardRecords p (cardsOf (now («t_hist» .entry)) (now («r_hist» .entry)) «seq_len» batch (now («seq_lens» .entry)) (now (labels .entry)) (now (weights .entry))) column (now (records .entry))) × (now («step_grads» .exit) ≡ cardGrads p (cardsOf (now («t_hist» .entry)) (now («r_hist» .entry)) «seq_len» batch (now («seq_lens» .entry)) (now (labels .entry)) (now (weights .entry))) column (now («step_grads» .entry))) ⌝ }
+    ensures { λ r. ⌜ (let x = cardsOf (now («t_hist» .entry)) (now («r_hist» .entry)) «seq_len» batch (now («seq_lens» .entry)) (now (labels .entry)) (now (weights .entry)) in (r ≡ cardLoss p x column) × (now (gw .exit) ≡ cardSlots p x column (now (gw .entry))) × (now (records .exit) ≡ cardRecords p x column (now (records .entry))) × (now («step_grads» .exit) ≡ cardGrads p x column (now («step_grads» .entry)))) ⌝ }
 {
     let n = cut_length(seq_lens, seq_len, column);
     if n == 0 {
@@ -80,7 +80,7 @@ fn batch_total_and_grad(
     step_grads: &mut [f64],
 ) -> f64
     requires { ⌜ (longestDef (now «seq_lens») «seq_len» batch ≤ roomDef (length (now records))) × (longestDef (now «seq_lens») «seq_len» batch ≤ length (now «step_grads»)) ⌝ }
-    ensures { λ r. ⌜ (r ≡ lossTo p (cardsOf (now («t_hist» .entry)) (now («r_hist» .entry)) «seq_len» batch (now («seq_lens» .entry)) (now (labels .entry)) (now (weights .entry))) batch) × (now (gw .exit) ≡ slotsTo p (cardsOf (now («t_hist» .entry)) (now («r_hist» .entry)) «seq_len» batch (now («seq_lens» .entry)) (now (labels .entry)) (now (weights .entry))) batch (now (gw .entry))) × (now (records .exit) ≡ recordsTo p (cardsOf (now («t_hist» .entry)) (now («r_hist» .entry)) «seq_len» batch (now («seq_lens» .entry)) (now (labels .entry)) (now (weights .entry))) batch (now (records .entry))) × (now («step_grads» .exit) ≡ gradsTo p (cardsOf (now («t_hist» .entry)) (now («r_hist» .entry)) «seq_len» batch (now («seq_lens» .entry)) (now (labels .entry)) (now (weights .entry))) batch (now («step_grads» .entry))) ⌝ }
+    ensures { λ r. ⌜ (let x = cardsOf (now («t_hist» .entry)) (now («r_hist» .entry)) «seq_len» batch (now («seq_lens» .entry)) (now (labels .entry)) (now (weights .entry)) in (r ≡ lossTo p x batch) × (now (gw .exit) ≡ slotsTo p x batch (now (gw .entry))) × (now (records .exit) ≡ recordsTo p x batch (now (records .entry))) × (now («step_grads» .exit) ≡ gradsTo p x batch (now («step_grads» .entry)))) ⌝ }
 {
     let mut loss = 0.0;
     let mut c = 0;
@@ -120,7 +120,7 @@ pub fn card_loss_and_grad(
     records: &mut [f32],
     step_grads: &mut [f64],
 ) -> Loss
-    ensures { λ r. ⌜ (r ≡ cardsLossAndGrad (now (w .entry)) (cardsOf (now («t_hist» .entry)) (now («r_hist» .entry)) «seq_len» batch (now («seq_lens» .entry)) (now (labels .entry)) (now (weights .entry))) (length (now (gw .entry))) (length (now (records .entry))) (length (now («step_grads» .entry)))) × (now (gw .exit) ≡ cardsSlots (now (w .entry)) (cardsOf (now («t_hist» .entry)) (now («r_hist» .entry)) «seq_len» batch (now («seq_lens» .entry)) (now (labels .entry)) (now (weights .entry))) (now (gw .entry)) (length (now (records .entry))) (length (now («step_grads» .entry)))) × (now (records .exit) ≡ cardsRecords (now (w .entry)) (cardsOf (now («t_hist» .entry)) (now («r_hist» .entry)) «seq_len» batch (now («seq_lens» .entry)) (now (labels .entry)) (now (weights .entry))) (length (now (gw .entry))) (now (records .entry)) (length (now («step_grads» .entry)))) × (now («step_grads» .exit) ≡ cardsGrads (now (w .entry)) (cardsOf (now («t_hist» .entry)) (now («r_hist» .entry)) «seq_len» batch (now («seq_lens» .entry)) (now (labels .entry)) (now (weights .entry))) (length (now (gw .entry))) (length (now (records .entry))) (now («step_grads» .entry))) ⌝ }
+    ensures { λ r. ⌜ (let x = cardsOf (now («t_hist» .entry)) (now («r_hist» .entry)) «seq_len» batch (now («seq_lens» .entry)) (now (labels .entry)) (now (weights .entry)) in (r ≡ cardsLossAndGrad (now (w .entry)) x (length (now (gw .entry))) (length (now (records .entry))) (length (now («step_grads» .entry)))) × (now (gw .exit) ≡ cardsSlots (now (w .entry)) x (now (gw .entry)) (length (now (records .entry))) (length (now («step_grads» .entry)))) × (now (records .exit) ≡ cardsRecords (now (w .entry)) x (length (now (gw .entry))) (now (records .entry)) (length (now («step_grads» .entry)))) × (now («step_grads» .exit) ≡ cardsGrads (now (w .entry)) x (length (now (gw .entry))) (length (now (records .entry))) (now («step_grads» .entry)))) ⌝ }
 {
     let slots = gw.len();
     let space = room(records);

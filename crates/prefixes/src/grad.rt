@@ -34,7 +34,7 @@ fn column_loss_and_grad(
     records: &mut [f32],
 ) -> f64
     requires { ⌜ cutAt (now «seq_lens») «seq_len» column ≤ roomDef (length (now records)) ⌝ }
-    ensures { λ r. ⌜ (r ≡ prefixLoss p (prefixesOf (now («t_hist» .entry)) (now («r_hist» .entry)) «seq_len» batch (now («seq_lens» .entry)) (now («delta_ts» .entry)) (now (labels .entry)) (now (weights .entry))) column) × (now (gw .exit) ≡ prefixSlots p (prefixesOf (now («t_hist» .entry)) (now («r_hist» .entry)) «seq_len» batch (now («seq_lens» .entry)) (now («delta_ts» .entry)) (now (labels .entry)) (now (weights .entry))) column (now (gw .entry))) × (now (records .exit) ≡ prefixRecords p (prefixesOf (now («t_hist» .entry)) (now («r_hist» .entry)) «seq_len» batch (now («seq_lens» .entry)) (now («delta_ts» .entry)) (now (labels .entry)) (now (weights .entry))) column (now (records .entry))) ⌝ }
+    ensures { λ r. ⌜ (let x = prefixesOf (now («t_hist» .entry)) (now («r_hist» .entry)) «seq_len» batch (now («seq_lens» .entry)) (now («delta_ts» .entry)) (now (labels .entry)) (now (weights .entry)) in (r ≡ prefixLoss p x column) × (now (gw .exit) ≡ prefixSlots p x column (now (gw .entry))) × (now (records .exit) ≡ prefixRecords p x column (now (records .entry)))) ⌝ }
 {
     let n = cut_length(seq_lens, seq_len, column);
     let q = run_stored(p, t_hist, r_hist, batch, column, n, records);
@@ -62,7 +62,7 @@ fn batch_total_and_grad(
     records: &mut [f32],
 ) -> f64
     requires { ⌜ longestDef (now «seq_lens») «seq_len» batch ≤ roomDef (length (now records)) ⌝ }
-    ensures { λ r. ⌜ (r ≡ lossTo p (prefixesOf (now («t_hist» .entry)) (now («r_hist» .entry)) «seq_len» batch (now («seq_lens» .entry)) (now («delta_ts» .entry)) (now (labels .entry)) (now (weights .entry))) batch) × (now (gw .exit) ≡ slotsTo p (prefixesOf (now («t_hist» .entry)) (now («r_hist» .entry)) «seq_len» batch (now («seq_lens» .entry)) (now («delta_ts» .entry)) (now (labels .entry)) (now (weights .entry))) batch (now (gw .entry))) × (now (records .exit) ≡ recordsTo p (prefixesOf (now («t_hist» .entry)) (now («r_hist» .entry)) «seq_len» batch (now («seq_lens» .entry)) (now («delta_ts» .entry)) (now (labels .entry)) (now (weights .entry))) batch (now (records .entry))) ⌝ }
+    ensures { λ r. ⌜ (let x = prefixesOf (now («t_hist» .entry)) (now («r_hist» .entry)) «seq_len» batch (now («seq_lens» .entry)) (now («delta_ts» .entry)) (now (labels .entry)) (now (weights .entry)) in (r ≡ lossTo p x batch) × (now (gw .exit) ≡ slotsTo p x batch (now (gw .entry))) × (now (records .exit) ≡ recordsTo p x batch (now (records .entry)))) ⌝ }
 {
     let mut loss = 0.0;
     let mut c = 0;
@@ -102,7 +102,7 @@ pub fn batch_loss_and_grad(
     gw: &mut [f64],
     records: &mut [f32],
 ) -> Loss
-    ensures { λ r. ⌜ (r ≡ batchLossAndGrad (now (w .entry)) (prefixesOf (now («t_hist» .entry)) (now («r_hist» .entry)) «seq_len» batch (now («seq_lens» .entry)) (now («delta_ts» .entry)) (now (labels .entry)) (now (weights .entry))) (length (now (gw .entry))) (length (now (records .entry)))) × (now (gw .exit) ≡ batchSlots (now (w .entry)) (prefixesOf (now («t_hist» .entry)) (now («r_hist» .entry)) «seq_len» batch (now («seq_lens» .entry)) (now («delta_ts» .entry)) (now (labels .entry)) (now (weights .entry))) (now (gw .entry)) (length (now (records .entry)))) × (now (records .exit) ≡ batchRecords (now (w .entry)) (prefixesOf (now («t_hist» .entry)) (now («r_hist» .entry)) «seq_len» batch (now («seq_lens» .entry)) (now («delta_ts» .entry)) (now (labels .entry)) (now (weights .entry))) (length (now (gw .entry))) (now (records .entry))) ⌝ }
+    ensures { λ r. ⌜ (let x = prefixesOf (now («t_hist» .entry)) (now («r_hist» .entry)) «seq_len» batch (now («seq_lens» .entry)) (now («delta_ts» .entry)) (now (labels .entry)) (now (weights .entry)) in (r ≡ batchLossAndGrad (now (w .entry)) x (length (now (gw .entry))) (length (now (records .entry)))) × (now (gw .exit) ≡ batchSlots (now (w .entry)) x (now (gw .entry)) (length (now (records .entry)))) × (now (records .exit) ≡ batchRecords (now (w .entry)) x (length (now (gw .entry))) (now (records .entry)))) ⌝ }
 {
     let slots = gw.len();
     let space = room(records);
