@@ -1,15 +1,14 @@
--- A card's walk over what it stored is the walk over its records and scores, and one more card. Assumes nothing.
+-- A card's walk over what it stored is the walk over its records and scores. Assumes nothing.
 use Prim.Native.Nat.{ℕ, _+_, _-_, _≤_, _<_}
 use mathlib.Core.List.{List}
 use mathlib.Core.Path.{_≡_, sym, ap, _∙_, subst}
 use native.Mathlib.Nat.{le-trans, ne-of-lt}
-use native.Mathlib.Numerals.{add-one}
 use native.Mathlib.Omega.{arith}
 use borrow.Author.Tests.{eq-eqb, ne-eqb}
 use lib.Ieee.{Float}
 use lib.ListN.{getD, length, set}
 use lib.Seq.{getD-set-other}
-use Rattle.domain.specs.Doubles.{_+ᵈ_, zero64}
+use Rattle.domain.specs.Doubles.{zero64}
 use Rattle.branches.specs.declared.params.RuntimeParams.{RuntimeParams}
 use Rattle.tables.specs.Batch.{Cards, lengthAt, at}
 use Rattle.records.specs.Records.{roomDef, loadDef}
@@ -18,7 +17,7 @@ use Rattle.ends.specs.Ends.{lastLoss, lastGrad, lastSlots}
 use Rattle.passes.specs.Path.{recordAt, storedDef, scoreAt, runAt, gradsDef}
 use Rattle.passes.specs.declared.scored.Run.{Run}
 use Rattle.passes.proofs.Kept.{path-read, grads-read, back-same}
-use Rattle.cards.specs.Cards.{cardLoss, cardSlots, cardRecords, cardGrads, lossTo, slotsTo, recordsTo, gradsTo}
+use Rattle.cards.specs.Cards.{cardLoss, cardSlots, cardRecords, cardGrads}
 
 module _ (p : RuntimeParams) (x : Cards) (column n : ℕ) (e : n ≡ lengthAt (x .table) column) where
   -- a card with no row
@@ -95,34 +94,3 @@ module _ (p : RuntimeParams) (x : Cards) (column n : ℕ) (e : n ≡ lengthAt (x
         where
           less : n - 1 ≤ lengthAt (x .table) column
           less = omega (arith, e)
-
-module _ (p : RuntimeParams) (x : Cards) (k : ℕ) where
-  pub next-loss : (loss part : Float) → loss ≡ lossTo p x k → part ≡ cardLoss p x k → loss +ᵈ part ≡ lossTo p x (k + 1)
-  unfolding lossTo
-  next-loss loss part e h = rw (add-one k, e, h)
-
-  pub next-slots : (start gw after : List Float) → gw ≡ slotsTo p x k start → after ≡ cardSlots p x k gw → after ≡ slotsTo p x (k + 1) start
-  unfolding slotsTo
-  next-slots start gw after e h = rw (add-one k) (h ∙ ap (λ (y : List Float). cardSlots p x k y) e)
-
-  pub next-records : (start xs after : List Float) → xs ≡ recordsTo p x k start → after ≡ cardRecords p x k xs → after ≡ recordsTo p x (k + 1) start
-  unfolding recordsTo
-  next-records start xs after e h = rw (add-one k) (h ∙ ap (λ (y : List Float). cardRecords p x k y) e)
-
-  pub next-grads : (start xs after : List Float) → xs ≡ gradsTo p x k start → after ≡ cardGrads p x k xs → after ≡ gradsTo p x (k + 1) start
-  unfolding gradsTo
-  next-grads start xs after e h = rw (add-one k) (h ∙ ap (λ (y : List Float). cardGrads p x k y) e)
-
--- all columns
-module _ (p : RuntimeParams) (x : Cards) (k n : ℕ) (e : k ≡ n) where
-  pub all-loss : (loss : Float) → loss ≡ lossTo p x k → loss ≡ lossTo p x n
-  all-loss loss h = subst (λ (m : ℕ). loss ≡ lossTo p x m) e h
-
-  pub all-slots : (start gw : List Float) → gw ≡ slotsTo p x k start → gw ≡ slotsTo p x n start
-  all-slots start gw h = subst (λ (m : ℕ). gw ≡ slotsTo p x m start) e h
-
-  pub all-records : (start xs : List Float) → xs ≡ recordsTo p x k start → xs ≡ recordsTo p x n start
-  all-records start xs h = subst (λ (m : ℕ). xs ≡ recordsTo p x m start) e h
-
-  pub all-grads : (start xs : List Float) → xs ≡ gradsTo p x k start → xs ≡ gradsTo p x n start
-  all-grads start xs h = subst (λ (m : ℕ). xs ≡ gradsTo p x m start) e h

@@ -1,14 +1,15 @@
 -- card_loss_and_grad of analytic_v6.rs and its loss alone, with document 01's refusals in its order: 1, 2, 5, 3, 4, then the first fault. Assumes nothing.
-use Prim.Native.Nat.{ℕ, zero, suc, _-_}
+use Prim.Native.Nat.{ℕ, _-_}
 use mathlib.Core.Bool.{cond}
 use mathlib.Core.List.{List}
 use lib.Dec.{eqb}
 use lib.Ieee.{Float}
 use lib.ListN.{length, set}
-use Rattle.domain.specs.Doubles.{_+ᵈ_, zero64}
+use Rattle.domain.specs.Doubles.{zero64}
 use Rattle.branches.specs.Params.{paramsDef}
 use Rattle.branches.specs.declared.params.RuntimeParams.{RuntimeParams}
 use Rattle.tables.specs.Batch.{Cards, lengthAt, at}
+use Rattle.tables.specs.Columns.{total, through}
 use Rattle.checks.specs.Refusals.{cardLossRefusal, cardGradRefusal}
 use Rattle.records.specs.Records.{roomDef}
 use Rattle.passes.specs.Back.{startGrad, backDef}
@@ -56,27 +57,9 @@ module _ (p : RuntimeParams) (x : Cards) (column : ℕ) where
       cond (eqb cardLength 0) step-grads
       (set (gradsDef p (x .table .days) (x .table .ratings) (x .table .columns) column (x .labels) (x .weights) lastRow step-grads) lastRow zero64)
 
--- column after column
-module _ (p : RuntimeParams) (x : Cards) where
-  -- 'column losses add in column order in double'
-  unfoldable pub lossTo : (columns : ℕ) → Float
-  lossTo zero = zero64
-  lossTo (suc column) = lossTo column +ᵈ cardLoss p x column
-
-  unfoldable pub slotsTo : (columns : ℕ) (gw : List Float) → List Float
-  slotsTo zero gw = gw
-  slotsTo (suc column) gw = cardSlots p x column (slotsTo column gw)
-
-  unfoldable pub recordsTo : (columns : ℕ) (records : List Float) → List Float
-  recordsTo zero records = records
-  recordsTo (suc column) records = cardRecords p x column (recordsTo column records)
-
-  unfoldable pub gradsTo : (columns : ℕ) (step-grads : List Float) → List Float
-  gradsTo zero step-grads = step-grads
-  gradsTo (suc column) step-grads = cardGrads p x column (gradsTo column step-grads)
-
+-- 'column losses add in column order in double'
 abbrev pub lossOf : (w : List Float) (x : Cards) → Float
-lossOf w x = lossTo (paramsDef w) x (x .table .columns)
+lossOf w x = total (cardLoss (paramsDef w) x) (x .table .columns)
 
 -- a lent slice stands for its length where only that counts: ten singles make a record
 unfoldable pub cardsLossAndGrad : (w : List Float) (x : Cards) (gw records step-grads : ℕ) → Loss
@@ -85,15 +68,15 @@ cardsLossAndGrad w x gw records step-grads = answer (cardGradRefusal w x gw (roo
 -- the slots are added to, and left as they were where the call is refused
 unfoldable pub cardsSlots : (w : List Float) (x : Cards) (gw : List Float) (records step-grads : ℕ) → List Float
 cardsSlots w x gw records step-grads =
-    cond (eqb (cardGradRefusal w x (length gw) (roomDef records) step-grads) 0) (slotsTo (paramsDef w) x (x .table .columns) gw) gw
+    cond (eqb (cardGradRefusal w x (length gw) (roomDef records) step-grads) 0) (through (cardSlots (paramsDef w) x) (x .table .columns) gw) gw
 
 unfoldable pub cardsRecords : (w : List Float) (x : Cards) (gw : ℕ) (records : List Float) (step-grads : ℕ) → List Float
 cardsRecords w x gw records step-grads =
-    cond (eqb (cardGradRefusal w x gw (roomDef (length records)) step-grads) 0) (recordsTo (paramsDef w) x (x .table .columns) records) records
+    cond (eqb (cardGradRefusal w x gw (roomDef (length records)) step-grads) 0) (through (cardRecords (paramsDef w) x) (x .table .columns) records) records
 
 unfoldable pub cardsGrads : (w : List Float) (x : Cards) (gw records : ℕ) (step-grads : List Float) → List Float
 cardsGrads w x gw records step-grads =
-    cond (eqb (cardGradRefusal w x gw (roomDef records) (length step-grads)) 0) (gradsTo (paramsDef w) x (x .table .columns) step-grads) step-grads
+    cond (eqb (cardGradRefusal w x gw (roomDef records) (length step-grads)) 0) (through (cardGrads (paramsDef w) x) (x .table .columns) step-grads) step-grads
 
 unfoldable pub cardsLoss : (w : List Float) (x : Cards) → Loss
 cardsLoss w x = answer (cardLossRefusal w x) (lossOf w x)

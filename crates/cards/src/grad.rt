@@ -4,9 +4,10 @@ ghost use Prim.Native.Nat.{_≤_};
 ghost use lib.ListN.{length};
 ghost use Rattle.checks.specs.Sizes.{longestDef};
 ghost use Rattle.records.specs.Records.{roomDef};
+ghost use Rattle.tables.specs.Columns.{total, through};
 ghost use Rattle.tables.specs.Batch.{cardsOf};
 ghost use Rattle.tables.specs.Tables.{cutAt};
-ghost use Rattle.cards.specs.Cards.{cardLoss, cardSlots, cardRecords, cardGrads, lossTo, slotsTo, recordsTo, gradsTo, cardsLossAndGrad, cardsSlots, cardsRecords, cardsGrads};
+ghost use Rattle.cards.specs.Cards.{cardLoss, cardSlots, cardRecords, cardGrads, cardsLossAndGrad, cardsSlots, cardsRecords, cardsGrads};
 use branches::params::RuntimeParams;
 use branches::params::runtime_params;
 use checks::card_grad::card_grad_refusal;
@@ -80,7 +81,7 @@ fn batch_total_and_grad(
     step_grads: &mut [f64],
 ) -> f64
     requires { ⌜ (longestDef (now «seq_lens») «seq_len» batch ≤ roomDef (length (now records))) × (longestDef (now «seq_lens») «seq_len» batch ≤ length (now «step_grads»)) ⌝ }
-    ensures { λ r. ⌜ (let x = cardsOf (now («t_hist» .entry)) (now («r_hist» .entry)) «seq_len» batch (now («seq_lens» .entry)) (now (labels .entry)) (now (weights .entry)) in (r ≡ lossTo p x batch) × (now (gw .exit) ≡ slotsTo p x batch (now (gw .entry))) × (now (records .exit) ≡ recordsTo p x batch (now (records .entry))) × (now («step_grads» .exit) ≡ gradsTo p x batch (now («step_grads» .entry)))) ⌝ }
+    ensures { λ r. ⌜ (let x = cardsOf (now («t_hist» .entry)) (now («r_hist» .entry)) «seq_len» batch (now («seq_lens» .entry)) (now (labels .entry)) (now (weights .entry)) in (r ≡ total (cardLoss p x) batch) × (now (gw .exit) ≡ through (cardSlots p x) batch (now (gw .entry))) × (now (records .exit) ≡ through (cardRecords p x) batch (now (records .entry))) × (now («step_grads» .exit) ≡ through (cardGrads p x) batch (now («step_grads» .entry)))) ⌝ }
 {
     let mut loss = 0.0;
     let mut c = 0;

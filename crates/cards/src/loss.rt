@@ -1,7 +1,8 @@
 // The loss alone.
 ghost use mathlib.Core.Path.{_≡_};
+ghost use Rattle.tables.specs.Columns.{total};
 ghost use Rattle.tables.specs.Batch.{cardsOf};
-ghost use Rattle.cards.specs.Cards.{cardLoss, lossTo, cardsLoss};
+ghost use Rattle.cards.specs.Cards.{cardLoss, cardsLoss};
 use branches::params::RuntimeParams;
 use branches::params::runtime_params;
 use checks::card_loss::card_loss_refusal;
@@ -50,7 +51,7 @@ fn batch_total(
     labels: &[f32],
     weights: &[f32],
 ) -> f64
-    ensures { λ r. ⌜ r ≡ lossTo p (cardsOf (now («t_hist» .entry)) (now («r_hist» .entry)) «seq_len» batch (now («seq_lens» .entry)) (now (labels .entry)) (now (weights .entry))) batch ⌝ }
+    ensures { λ r. ⌜ r ≡ total (cardLoss p (cardsOf (now («t_hist» .entry)) (now («r_hist» .entry)) «seq_len» batch (now («seq_lens» .entry)) (now (labels .entry)) (now (weights .entry)))) batch ⌝ }
 {
     let mut loss = 0.0;
     let mut c = 0;

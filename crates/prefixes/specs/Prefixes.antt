@@ -1,15 +1,16 @@
 -- batch_loss_and_grad and batch_loss of analytic_v6.rs, with document 01's refusals in its order: 1, 2, 5, 3, 4, then the first fault. Assumes nothing.
-use Prim.Native.Nat.{ℕ, zero, suc}
+use Prim.Native.Nat.{ℕ}
 use mathlib.Core.Bool.{cond}
 use mathlib.Core.List.{List}
 use lib.Dec.{eqb}
 use lib.Ieee.{Float}
 use lib.ListN.{length}
 use Rattle.weights.specs.Weights.{_!_}
-use Rattle.domain.specs.Doubles.{_+ᵈ_, zero64}
+use Rattle.domain.specs.Doubles.{zero64}
 use Rattle.branches.specs.Params.{paramsDef}
 use Rattle.branches.specs.declared.params.RuntimeParams.{RuntimeParams}
 use Rattle.tables.specs.Batch.{Prefixes, lengthAt}
+use Rattle.tables.specs.Columns.{total, through}
 use Rattle.checks.specs.Refusals.{prefixLossRefusal, prefixGradRefusal}
 use Rattle.records.specs.Records.{roomDef}
 use Rattle.passes.specs.Back.{startGrad, backDef}
@@ -36,23 +37,9 @@ module _ (p : RuntimeParams) (x : Prefixes) (column : ℕ) where
   unfoldable pub prefixRecords : (records : List Float) → List Float
   prefixRecords records = storedDef p (x .table .days) (x .table .ratings) (x .table .columns) column (lengthAt (x .table) column) records
 
--- column after column
-module _ (p : RuntimeParams) (x : Prefixes) where
-  -- 'column losses add in column order in double'
-  unfoldable pub lossTo : (columns : ℕ) → Float
-  lossTo zero = zero64
-  lossTo (suc column) = lossTo column +ᵈ prefixLoss p x column
-
-  unfoldable pub slotsTo : (columns : ℕ) (gw : List Float) → List Float
-  slotsTo zero gw = gw
-  slotsTo (suc column) gw = prefixSlots p x column (slotsTo column gw)
-
-  unfoldable pub recordsTo : (columns : ℕ) (records : List Float) → List Float
-  recordsTo zero records = records
-  recordsTo (suc column) records = prefixRecords p x column (recordsTo column records)
-
+-- 'column losses add in column order in double'
 abbrev pub lossOf : (w : List Float) (x : Prefixes) → Float
-lossOf w x = lossTo (paramsDef w) x (x .table .columns)
+lossOf w x = total (prefixLoss (paramsDef w) x) (x .table .columns)
 
 -- a lent slice stands for its length where only that counts: ten singles make a record
 unfoldable pub batchLossAndGrad : (w : List Float) (x : Prefixes) (gw records : ℕ) → Loss
@@ -61,11 +48,11 @@ batchLossAndGrad w x gw records = answer (prefixGradRefusal w x gw (roomDef reco
 -- the slots are added to, and left as they were where the call is refused
 unfoldable pub batchSlots : (w : List Float) (x : Prefixes) (gw : List Float) (records : ℕ) → List Float
 batchSlots w x gw records =
-    cond (eqb (prefixGradRefusal w x (length gw) (roomDef records)) 0) (slotsTo (paramsDef w) x (x .table .columns) gw) gw
+    cond (eqb (prefixGradRefusal w x (length gw) (roomDef records)) 0) (through (prefixSlots (paramsDef w) x) (x .table .columns) gw) gw
 
 unfoldable pub batchRecords : (w : List Float) (x : Prefixes) (gw : ℕ) (records : List Float) → List Float
 batchRecords w x gw records =
-    cond (eqb (prefixGradRefusal w x gw (roomDef (length records))) 0) (recordsTo (paramsDef w) x (x .table .columns) records) records
+    cond (eqb (prefixGradRefusal w x gw (roomDef (length records))) 0) (through (prefixRecords (paramsDef w) x) (x .table .columns) records) records
 
 unfoldable pub batchLoss : (w : List Float) (x : Prefixes) → Loss
 batchLoss w x = answer (prefixLossRefusal w x) (lossOf w x)

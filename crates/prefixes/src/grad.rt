@@ -4,9 +4,10 @@ ghost use Prim.Native.Nat.{_≤_};
 ghost use lib.ListN.{length};
 ghost use Rattle.checks.specs.Sizes.{longestDef};
 ghost use Rattle.records.specs.Records.{roomDef};
+ghost use Rattle.tables.specs.Columns.{total, through};
 ghost use Rattle.tables.specs.Batch.{prefixesOf};
 ghost use Rattle.tables.specs.Tables.{cutAt};
-ghost use Rattle.prefixes.specs.Prefixes.{prefixLoss, prefixSlots, prefixRecords, lossTo, slotsTo, recordsTo, batchLossAndGrad, batchSlots, batchRecords};
+ghost use Rattle.prefixes.specs.Prefixes.{prefixLoss, prefixSlots, prefixRecords, batchLossAndGrad, batchSlots, batchRecords};
 use branches::params::RuntimeParams;
 use branches::params::runtime_params;
 use checks::prefix_grad::prefix_grad_refusal;
@@ -62,7 +63,7 @@ fn batch_total_and_grad(
     records: &mut [f32],
 ) -> f64
     requires { ⌜ longestDef (now «seq_lens») «seq_len» batch ≤ roomDef (length (now records)) ⌝ }
-    ensures { λ r. ⌜ (let x = prefixesOf (now («t_hist» .entry)) (now («r_hist» .entry)) «seq_len» batch (now («seq_lens» .entry)) (now («delta_ts» .entry)) (now (labels .entry)) (now (weights .entry)) in (r ≡ lossTo p x batch) × (now (gw .exit) ≡ slotsTo p x batch (now (gw .entry))) × (now (records .exit) ≡ recordsTo p x batch (now (records .entry)))) ⌝ }
+    ensures { λ r. ⌜ (let x = prefixesOf (now («t_hist» .entry)) (now («r_hist» .entry)) «seq_len» batch (now («seq_lens» .entry)) (now («delta_ts» .entry)) (now (labels .entry)) (now (weights .entry)) in (r ≡ total (prefixLoss p x) batch) × (now (gw .exit) ≡ through (prefixSlots p x) batch (now (gw .entry))) × (now (records .exit) ≡ through (prefixRecords p x) batch (now (records .entry)))) ⌝ }
 {
     let mut loss = 0.0;
     let mut c = 0;

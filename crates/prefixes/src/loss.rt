@@ -1,7 +1,8 @@
 // The loss alone.
 ghost use mathlib.Core.Path.{_≡_};
+ghost use Rattle.tables.specs.Columns.{total};
 ghost use Rattle.tables.specs.Batch.{prefixesOf};
-ghost use Rattle.prefixes.specs.Prefixes.{prefixLoss, lossTo, batchLoss};
+ghost use Rattle.prefixes.specs.Prefixes.{prefixLoss, batchLoss};
 use branches::params::RuntimeParams;
 use branches::params::runtime_params;
 use checks::prefix_loss::prefix_loss_refusal;
@@ -46,7 +47,7 @@ fn batch_total(
     labels: &[f32],
     weights: &[f32],
 ) -> f64
-    ensures { λ r. ⌜ r ≡ lossTo p (prefixesOf (now («t_hist» .entry)) (now («r_hist» .entry)) «seq_len» batch (now («seq_lens» .entry)) (now («delta_ts» .entry)) (now (labels .entry)) (now (weights .entry))) batch ⌝ }
+    ensures { λ r. ⌜ r ≡ total (prefixLoss p (prefixesOf (now («t_hist» .entry)) (now («r_hist» .entry)) «seq_len» batch (now («seq_lens» .entry)) (now («delta_ts» .entry)) (now (labels .entry)) (now (weights .entry)))) batch ⌝ }
 {
     let mut loss = 0.0;
     let mut c = 0;

@@ -1,2 +1,3 @@
+pub mod Columns
 pub mod Default
 pub mod Fits

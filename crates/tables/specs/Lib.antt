@@ -1,2 +1,3 @@
 pub mod Batch
+pub mod Columns
 pub mod Tables

@@ -6,23 +6,23 @@ use Rattle.tables.specs.Batch.{cardsOf}
 use native.Mathlib.Nat.{le-trans}
 use lib.ListN.{length}
 use Rattle.checks.proofs.Longest.{under-longest}
-use Rattle.cards.specs.Cards.{lossTo, slotsTo, recordsTo, gradsTo}
-use Rattle.cards.proofs.Columns.{next-loss, next-slots, next-records, next-grads, all-loss, all-slots, all-records, all-grads}
+use Rattle.tables.specs.Columns.{total, through}
+use Rattle.tables.proofs.Columns.{no-total, next-total, all-total, none-through, next-through, all-through}
+use Rattle.cards.specs.Cards.{cardLoss, cardSlots, cardRecords, cardGrads}
 use Rattle.cards.proofs.grad.batch_total_and_grad.Statement.{statement}
 use Rattle.cards.proofs.grad.batch_total_and_grad.Tie as tie
 
 abbrev Inv-loop : tie.InvT-loop
 Inv-loop p t-hist r-hist seq-len batch seq-lens labels weights gw₀ records₀ step-grads₀ loss₀ c₀ gw records step-grads loss c =
     (c ≤ batch) × (length gw ≡ length gw₀) × (length records ≡ length records₀) × (length step-grads ≡ length step-grads₀) ×
-    (loss ≡ lossTo p (cardsOf t-hist r-hist seq-len batch seq-lens labels weights) c) × (gw ≡ slotsTo p (cardsOf t-hist r-hist seq-len batch seq-lens labels weights) c gw₀) × (records ≡ recordsTo p (cardsOf t-hist r-hist seq-len batch seq-lens labels weights) c records₀) ×
-    (step-grads ≡ gradsTo p (cardsOf t-hist r-hist seq-len batch seq-lens labels weights) c step-grads₀)
+    (loss ≡ total (cardLoss p (cardsOf t-hist r-hist seq-len batch seq-lens labels weights)) c) × (gw ≡ through (cardSlots p (cardsOf t-hist r-hist seq-len batch seq-lens labels weights)) c gw₀) × (records ≡ through (cardRecords p (cardsOf t-hist r-hist seq-len batch seq-lens labels weights)) c records₀) ×
+    (step-grads ≡ through (cardGrads p (cardsOf t-hist r-hist seq-len batch seq-lens labels weights)) c step-grads₀)
 
 abbrev μ-loop : tie.MeasureT-loop
 μ-loop p t-hist r-hist seq-len batch seq-lens labels weights gw₀ records₀ step-grads₀ loss₀ c₀ gw records step-grads loss c = batch - c
 
 loop-holds : tie.Need-loop-holds Inv-loop μ-loop
-unfolding lossTo slotsTo recordsTo gradsTo
-loop-holds c = (search needs, refl, refl, refl, refl, refl, refl, refl)
+loop-holds c = (search needs, refl, refl, refl, no-total _, none-through _ _, none-through _ _, none-through _ _)
 
 column-loss-and-grad-requires : tie.Need-column-loss-and-grad-requires Inv-loop μ-loop
 column-loss-and-grad-requires c κs =
@@ -44,10 +44,10 @@ loop-again c =
       search needs,
       search needs,
       search needs,
-      next-loss _ _ (l .c) _ _ (l .inv .4) (e .0),
-      next-slots _ _ (l .c) _ _ _ (l .inv .5) (e .1),
-      next-records _ _ (l .c) _ _ _ (l .inv .6) (e .2),
-      next-grads _ _ (l .c) _ _ _ (l .inv .7) (e .3),
+      next-total _ (l .c) _ _ (l .inv .4) (e .0),
+      next-through _ _ (l .c) _ _ (l .inv .5) (e .1),
+      next-through _ _ (l .c) _ _ (l .inv .6) (e .2),
+      next-through _ _ (l .c) _ _ (l .inv .7) (e .3),
     )
 
 same-length : tie.Need-same-length Inv-loop μ-loop
@@ -63,7 +63,7 @@ returns : tie.Need-returns Inv-loop μ-loop
 returns c =
     let l = c .before .loop in
     let e : l .c ≡ c .before .before .before .before .before .before .before .before .before .before .args .batch = omega (arith, l .inv .0, c .loop-test .left) in
-    (all-loss _ _ _ _ e _ (l .inv .4), all-slots _ _ _ _ e _ _ (l .inv .5), all-records _ _ _ _ e _ _ (l .inv .6), all-grads _ _ _ _ e _ _ (l .inv .7))
+    (all-total _ _ _ e _ (l .inv .4), all-through _ _ _ _ e _ (l .inv .5), all-through _ _ _ _ e _ (l .inv .6), all-through _ _ _ _ e _ (l .inv .7))
 
 pub batch-total-and-grad-spec : {M : Type 1} → statement M
 batch-total-and-grad-spec =

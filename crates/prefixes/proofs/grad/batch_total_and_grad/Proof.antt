@@ -6,22 +6,22 @@ use Rattle.tables.specs.Batch.{prefixesOf}
 use native.Mathlib.Nat.{le-trans}
 use lib.ListN.{length}
 use Rattle.checks.proofs.Longest.{under-longest}
-use Rattle.prefixes.specs.Prefixes.{lossTo, slotsTo, recordsTo}
-use Rattle.prefixes.proofs.Columns.{next-loss, next-slots, next-records, all-loss, all-slots, all-records}
+use Rattle.tables.specs.Columns.{total, through}
+use Rattle.tables.proofs.Columns.{no-total, next-total, all-total, none-through, next-through, all-through}
+use Rattle.prefixes.specs.Prefixes.{prefixLoss, prefixSlots, prefixRecords}
 use Rattle.prefixes.proofs.grad.batch_total_and_grad.Statement.{statement}
 use Rattle.prefixes.proofs.grad.batch_total_and_grad.Tie as tie
 
 abbrev Inv-loop : tie.InvT-loop
 Inv-loop p t-hist r-hist seq-len batch seq-lens delta-ts labels weights gw₀ records₀ loss₀ c₀ gw records loss c =
-    (c ≤ batch) × (length gw ≡ length gw₀) × (length records ≡ length records₀) × (loss ≡ lossTo p (prefixesOf t-hist r-hist seq-len batch seq-lens delta-ts labels weights) c) ×
-    (gw ≡ slotsTo p (prefixesOf t-hist r-hist seq-len batch seq-lens delta-ts labels weights) c gw₀) × (records ≡ recordsTo p (prefixesOf t-hist r-hist seq-len batch seq-lens delta-ts labels weights) c records₀)
+    (c ≤ batch) × (length gw ≡ length gw₀) × (length records ≡ length records₀) × (loss ≡ total (prefixLoss p (prefixesOf t-hist r-hist seq-len batch seq-lens delta-ts labels weights)) c) ×
+    (gw ≡ through (prefixSlots p (prefixesOf t-hist r-hist seq-len batch seq-lens delta-ts labels weights)) c gw₀) × (records ≡ through (prefixRecords p (prefixesOf t-hist r-hist seq-len batch seq-lens delta-ts labels weights)) c records₀)
 
 abbrev μ-loop : tie.MeasureT-loop
 μ-loop p t-hist r-hist seq-len batch seq-lens delta-ts labels weights gw₀ records₀ loss₀ c₀ gw records loss c = batch - c
 
 loop-holds : tie.Need-loop-holds Inv-loop μ-loop
-unfolding lossTo slotsTo recordsTo
-loop-holds c = (search needs, refl, refl, refl, refl, refl)
+loop-holds c = (search needs, refl, refl, no-total _, none-through _ _, none-through _ _)
 
 column-loss-and-grad-requires : tie.Need-column-loss-and-grad-requires Inv-loop μ-loop
 column-loss-and-grad-requires c κs =
@@ -41,9 +41,9 @@ loop-again c =
       search needs,
       search needs,
       search needs,
-      next-loss _ _ (l .c) _ _ (l .inv .3) (e .0),
-      next-slots _ _ (l .c) _ _ _ (l .inv .4) (e .1),
-      next-records _ _ (l .c) _ _ _ (l .inv .5) (e .2),
+      next-total _ (l .c) _ _ (l .inv .3) (e .0),
+      next-through _ _ (l .c) _ _ (l .inv .4) (e .1),
+      next-through _ _ (l .c) _ _ (l .inv .5) (e .2),
     )
 
 same-length : tie.Need-same-length Inv-loop μ-loop
@@ -56,7 +56,7 @@ returns : tie.Need-returns Inv-loop μ-loop
 returns c =
     let l = c .before .loop in
     let e : l .c ≡ c .before .before .before .before .before .before .before .before .before .before .args .batch = omega (arith, l .inv .0, c .loop-test .left) in
-    (all-loss _ _ _ _ e _ (l .inv .3), all-slots _ _ _ _ e _ _ (l .inv .4), all-records _ _ _ _ e _ _ (l .inv .5))
+    (all-total _ _ _ e _ (l .inv .3), all-through _ _ _ _ e _ (l .inv .4), all-through _ _ _ _ e _ (l .inv .5))
 
 pub batch-total-and-grad-spec : {M : Type 1} → statement M
 batch-total-and-grad-spec =
