@@ -1,5 +1,5 @@
 #!/usr/bin/env python3
-"""Writes crates/model_vectors/stdin, the test vectors of `domain`, `weights`, `filling` and `model_v6`, and its stdout.
+"""Writes crates/model_vectors/stdin, the test vectors of `domain`, `weights`, `filling`, `model_v6` and `review_v6`, and its stdout.
 
     tools/model_vectors.py [SEED]
 

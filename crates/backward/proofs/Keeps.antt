@@ -21,11 +21,13 @@ use Rattle.slots.specs.Curve.{curveSlots}
 use Rattle.slots.specs.Difficulty.{meanGrad, partsOf, difficultySlots, difficultyMoved, initSlots, initMoved}
 use Rattle.backward.specs.Moves.{slotsOf, mayMove}
 use Rattle.slots.specs.Slots.{bump, bumpIf}
-use Rattle.gradients.specs.Stability.{shortSlots, shortMoved, floorSlots, lapseSlots, failureMoved, successSlots, successMoved}
+use Rattle.gradients.specs.Stability.{shortSlots, shortMoved}
+use Rattle.failure_gradients.specs.Failure.{floorSlots, lapseSlots, failureMoved}
+use Rattle.success_gradients.specs.Success.{successSlots, successMoved}
 use Rattle.backward.specs.Step.{carried, firstFlow, flowDef, preGrad, firstMoved, shortAll, lapseAll, successAll, flowMoved, stepMoved}
 use Rattle.slots.specs.declared.difficulty.DifficultyParts.{DifficultyParts}
-use Rattle.gradients.specs.declared.stability.LapseParts.{LapseParts}
-use Rattle.gradients.specs.declared.stability.SuccessParts.{SuccessParts}
+use Rattle.failure_gradients.specs.declared.LapseParts.{LapseParts}
+use Rattle.success_gradients.specs.declared.SuccessParts.{SuccessParts}
 
 or-left : (a b : Bool) → a || b ≡ false → a ≡ false
 or-left false b e = refl

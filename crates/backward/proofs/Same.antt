@@ -13,7 +13,9 @@ use Rattle.forward.specs.Reads.{among, common, successWeights, Agree}
 use Rattle.forward.specs.declared.step.StepRecord.{StepRecord}
 use Rattle.forward.proofs.Agreement.{before, after, one-of, long-of}
 use Rattle.slots.specs.Difficulty.{difficultyBack, difficultyMoved, initMoved}
-use Rattle.gradients.specs.Stability.{shortBack, shortMoved, failureBack, failureMoved, successOf, successBack, successMoved}
+use Rattle.gradients.specs.Stability.{shortBack, shortMoved}
+use Rattle.failure_gradients.specs.Failure.{failureBack, failureMoved}
+use Rattle.success_gradients.specs.Success.{successOf, successBack, successMoved}
 use Rattle.backward.specs.Moves.{reverseReads}
 use Rattle.backward.specs.Step.{shortFlow, shortAll, lapseFlow, lapseAll, successFlow, successAll, firstMoved, flowDef, flowMoved, curveOf, stepGrad, stepMoved, preGrad}
 

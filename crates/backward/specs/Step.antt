@@ -16,7 +16,9 @@ use Rattle.forward.specs.declared.step.StepRecord.{StepRecord}
 use Rattle.slots.specs.Curve.{curveBack, curveSlots}
 use Rattle.slots.specs.Difficulty.{difficultyBack, difficultyMoved, initMoved}
 use Rattle.slots.specs.Slots.{clampGrad}
-use Rattle.gradients.specs.Stability.{shortBack, shortMoved, failureBack, failureMoved, successBack, successMoved}
+use Rattle.gradients.specs.Stability.{shortBack, shortMoved}
+use Rattle.failure_gradients.specs.Failure.{failureBack, failureMoved}
+use Rattle.success_gradients.specs.Success.{successBack, successMoved}
 use Rattle.gradients.specs.declared.stability.Grads.{Grads}
 use Rattle.backward.specs.declared.step.StateGrad.{StateGrad}
 

@@ -5,16 +5,16 @@ use branches::curve::CurveCache;
 use branches::params::RuntimeParams;
 use branches::stability::Branch;
 use domain::floats::max;
+use failure_gradients::backward_failure;
 use forward::step::StepRecord;
 use gradients::stability::Grads;
-use gradients::stability::backward_failure;
 use gradients::stability::backward_short;
-use gradients::stability::backward_success;
 use slots::curve::curve_backward;
 use slots::difficulty::backward_difficulty;
 use slots::difficulty::backward_init;
 use slots::slots::difficulty_grad;
 use slots::slots::stability_grad;
+use success_gradients::backward_success;
 
 // Gradients by a state's stability and difficulty.
 pub struct StateGrad {

@@ -1,4 +1,4 @@
-// The forgetting curve of training. It neither fuses nor rounds days: `formulas` has the study screen's.
+// The forgetting curve of training. It neither fuses nor rounds days: `curve_formulas` has the study screen's.
 ghost use mathlib.Core.Path.{_≡_};
 ghost use Rattle.branches.specs.Curve.{curveForward};
 use domain::floats::max;

@@ -1,2 +1,2 @@
-pub mod Formulas
+pub mod Difficulty
 pub mod State

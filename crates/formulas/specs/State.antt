@@ -6,7 +6,9 @@ use lib.Dec.{eqb, ltb}
 use lib.Ieee.{Float, eq}
 use Rattle.domain.specs.Floats.{clampDef}
 use Rattle.domain.specs.Limits.{zero32, S_MIN, S_MAX, D_MIN, D_MAX}
-use Rattle.formulas.specs.Formulas.{daysDef, curveDef, successDef, failureDef, shortTermDef, nextDifficultyDef}
+use Rattle.curve_formulas.specs.Curve.{daysDef, curveDef}
+use Rattle.stability_formulas.specs.Stability.{successDef, failureDef, shortTermDef}
+use Rattle.formulas.specs.Difficulty.{nextDifficultyDef}
 use Rattle.formulas.specs.declared.state.MemoryState.{MemoryState}
 
 -- rating.clamp(1, 4)

@@ -1,6 +1,6 @@
 // The first difficulty, and the difficulty after a review.
 ghost use mathlib.Core.Path.{_≡_};
-ghost use Rattle.formulas.specs.Formulas.{initDifficultyDef, meanReversionDef, nextDifficultyDef};
+ghost use Rattle.formulas.specs.Difficulty.{initDifficultyDef, meanReversionDef, nextDifficultyDef};
 use domain::limits::clamp_difficulty;
 use domain::limits::rating_offset;
 use exp::exp_f32;

@@ -1,5 +1,4 @@
-// The scalar formulas of model_v6.rs, on 21 weights: total, with an equation each. `model_v6` puts the checks in front.
-pub mod curve;
+// model_v6.rs on 21 weights: the difficulty, and what a review makes of a card's state. Total, with an equation each.
+// `model_v6` and `review_v6` put the checks in front.
 pub mod difficulty;
-pub mod stability;
 pub mod state;

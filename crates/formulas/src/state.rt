@@ -1,14 +1,14 @@
 // A card's memory state, and what a review makes of it.
 ghost use mathlib.Core.Path.{_≡_};
 ghost use Rattle.formulas.specs.State.{afterDef, clampRating, nextStateDef};
-use crate::curve::power_forgetting_curve;
-use crate::curve::whole_days;
 use crate::difficulty::next_difficulty;
-use crate::stability::stability_after_failure;
-use crate::stability::stability_after_success;
-use crate::stability::stability_short_term;
+use curve_formulas::power_forgetting_curve;
+use curve_formulas::whole_days;
 use domain::limits::clamp_difficulty;
 use domain::limits::clamp_stability;
+use stability_formulas::stability_after_failure;
+use stability_formulas::stability_after_success;
+use stability_formulas::stability_short_term;
 
 pub struct MemoryState {
     pub stability: f32,

@@ -1,2 +1,2 @@
-// analytic_v6.rs, backward: the reverse of the three ways in which a review moves the stability.
+// analytic_v6.rs, backward: the gradients by a state, and the reverse of a review on the same day.
 pub mod stability;

@@ -1,16 +1,16 @@
 // The forgetting curve and its inverse, with their checks.
 ghost use mathlib.Core.Path.{_≡_};
-ghost use Rattle.formulas.specs.Formulas.{curveDef, intervalDef};
-ghost use Rattle.model_v6.specs.Answers.{curveGood, intervalGood, scalarDef};
-use crate::answer::Scalar;
-use crate::answer::accepted;
-use crate::answer::refused;
-use crate::answer::scalar_refusal;
+ghost use Rattle.curve_formulas.specs.Curve.{curveDef, intervalDef};
+ghost use Rattle.scalars.specs.Answers.{curveGood, intervalGood, scalarDef};
+use curve_formulas::next_interval;
+use curve_formulas::power_forgetting_curve;
 use domain::floats::both;
 use domain::floats::is_finite;
 use domain::limits::is_day;
-use formulas::curve::next_interval;
-use formulas::curve::power_forgetting_curve;
+use scalars::Scalar;
+use scalars::accepted;
+use scalars::refused;
+use scalars::scalar_refusal;
 use weights::copy_weights;
 
 // What is remembered t days after a review that left the stability s.

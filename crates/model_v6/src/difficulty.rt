@@ -1,27 +1,19 @@
 // The first difficulty, the mean reversion and the next difficulty, with their checks.
 ghost use mathlib.Core.Path.{_≡_};
-ghost use Rattle.formulas.specs.Formulas.{initDifficultyDef, meanReversionDef, nextDifficultyDef};
-ghost use Rattle.model_v6.specs.Answers.{meanGood, nextDifficultyGood, ratingGood, scalarDef};
-use crate::answer::Scalar;
-use crate::answer::accepted;
-use crate::answer::refused;
-use crate::answer::scalar_refusal;
+ghost use Rattle.formulas.specs.Difficulty.{initDifficultyDef, meanReversionDef, nextDifficultyDef};
+ghost use Rattle.scalars.specs.Answers.{meanGood, nextDifficultyGood, ratingGood, scalarDef};
 use domain::floats::both;
 use domain::floats::is_finite;
 use domain::limits::is_difficulty;
 use formulas::difficulty::init_difficulty;
 use formulas::difficulty::mean_reversion;
 use formulas::difficulty::next_difficulty;
+use scalars::Scalar;
+use scalars::accepted;
+use scalars::is_rating;
+use scalars::refused;
+use scalars::scalar_refusal;
 use weights::copy_weights;
-
-pub(crate) fn is_rating(rating: u32) -> bool
-    ensures { λ r. ⌜ r ≡ ratingGood rating ⌝ }
-{
-    if rating < 1 {
-        return false;
-    }
-    rating <= 4
-}
 
 pub fn init_difficulty_scalar(w: &[f32], rating: u32) -> Scalar
     ensures { λ r. ⌜ r ≡ scalarDef (now (w .entry)) (ratingGood rating) (initDifficultyDef (now (w .entry)) rating) ⌝ }

@@ -2,8 +2,8 @@
 // refusal and the next two are values. Where the answer is a set of weights, the refusal is the first
 // word and the weights follow.
 use filling::Filled;
-use model_v6::answer::Scalar;
-use model_v6::state::NextState;
+use review_v6::state::NextState;
+use scalars::Scalar;
 use vectors::patterns::pattern_bool;
 use vectors::patterns::pattern_f32;
 use vectors::patterns::pattern_u32;

@@ -1,4 +1,5 @@
-// Each function of `domain`, `weights`, `filling` and `model_v6` on a line's arguments, compared with the answer there.
+// Each function of `domain`, `weights`, `filling`, `model_v6` and `review_v6` on a line's arguments, compared with the answer
+// there.
 use crate::answers::is_filled;
 use crate::answers::is_refusal;
 use crate::answers::is_scalar;
@@ -11,8 +12,8 @@ use domain::limits;
 use formulas::state::MemoryState;
 use model_v6::curve;
 use model_v6::difficulty;
-use model_v6::stability;
-use model_v6::state;
+use review_v6::stability;
+use review_v6::state;
 use vectors::patterns::f32_of;
 use vectors::patterns::u32_of;
 

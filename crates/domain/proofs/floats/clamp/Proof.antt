@@ -4,15 +4,15 @@ use Rattle.domain.proofs.floats.clamp.Tie as tie
 
 returns : tie.Need-returns
 unfolding clampDef
-returns c = cc
+returns c = rw (c .if1 .taken)
 
 returns-2 : tie.Need-returns-2
 unfolding clampDef
-returns-2 c = cc
+returns-2 c = rw (c .before .if1 .left, c .if2 .taken)
 
 returns-3 : tie.Need-returns-3
 unfolding clampDef
-returns-3 c = cc
+returns-3 c = rw (c .before .if1 .left, c .if2 .left)
 
 pub clamp-spec : {M : Type 1} → statement M
 clamp-spec = tie.close (tie.spec returns returns-2 returns-3)

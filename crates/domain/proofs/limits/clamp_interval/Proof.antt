@@ -7,7 +7,7 @@ clamp-requires : tie.Need-clamp-requires
 clamp-requires c κs = search needs
 
 returns : tie.Need-returns
-returns c = rw (s-max) cc
+returns c = rw s-max (c .clamp .ensures)
 
 pub clamp-interval-spec : {M : Type 1} → statement M
 clamp-interval-spec = tie.close (tie.spec clamp-requires returns)

@@ -7,7 +7,7 @@ clamp-requires : tie.Need-clamp-requires
 clamp-requires c κs = search needs
 
 returns : tie.Need-returns
-returns c = rw (s-min, s-max) cc
+returns c = rw (s-min, s-max) (c .clamp .ensures)
 
 pub clamp-stability-spec : {M : Type 1} → statement M
 clamp-stability-spec = tie.close (tie.spec clamp-requires returns)

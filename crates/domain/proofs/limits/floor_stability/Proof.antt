@@ -7,7 +7,7 @@ max-requires : tie.Need-max-requires
 max-requires c κs = search needs
 
 returns : tie.Need-returns
-returns c = rw (s-min) cc
+returns c = rw s-min (c .max .ensures)
 
 pub floor-stability-spec : {M : Type 1} → statement M
 floor-stability-spec = tie.close (tie.spec max-requires returns)

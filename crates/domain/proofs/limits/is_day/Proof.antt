@@ -7,7 +7,7 @@ is-within-requires : tie.Need-is-within-requires
 is-within-requires c κs = search needs
 
 returns : tie.Need-returns
-returns c = rw (day-max) cc
+returns c = rw day-max (c .is-within .ensures)
 
 pub is-day-spec : {M : Type 1} → statement M
 is-day-spec = tie.close (tie.spec is-within-requires returns)

@@ -7,7 +7,7 @@ is-within-requires : tie.Need-is-within-requires
 is-within-requires c κs = search needs
 
 returns : tie.Need-returns
-returns c = rw (s-min, s-max) cc
+returns c = rw (s-min, s-max) (c .is-within .ensures)
 
 pub is-stability-spec : {M : Type 1} → statement M
 is-stability-spec = tie.close (tie.spec is-within-requires returns)

@@ -1,4 +1,4 @@
-use Rattle.formulas.specs.Formulas.{initDifficultyDef}
+use Rattle.formulas.specs.Difficulty.{initDifficultyDef}
 use borrow.Author.Needs.{needs}
 use Rattle.formulas.proofs.difficulty.init_difficulty.Statement.{statement}
 use Rattle.formulas.proofs.difficulty.init_difficulty.Tie as tie

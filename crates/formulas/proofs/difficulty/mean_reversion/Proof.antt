@@ -1,4 +1,4 @@
-use Rattle.formulas.specs.Formulas.{meanReversionDef}
+use Rattle.formulas.specs.Difficulty.{meanReversionDef}
 use borrow.Author.Needs.{needs}
 use Rattle.formulas.proofs.difficulty.mean_reversion.Statement.{statement}
 use Rattle.formulas.proofs.difficulty.mean_reversion.Tie as tie

@@ -1,4 +1,4 @@
-use Rattle.formulas.specs.Formulas.{nextDifficultyDef}
+use Rattle.formulas.specs.Difficulty.{nextDifficultyDef}
 use borrow.Author.Needs.{needs}
 use Rattle.formulas.proofs.difficulty.next_difficulty.Statement.{statement}
 use Rattle.formulas.proofs.difficulty.next_difficulty.Tie as tie

@@ -1,0 +1,43 @@
+use Rattle.success_gradients.specs.Success.{successSlots}
+use borrow.Author.Needs.{needs}
+use Rattle.success_gradients.proofs.success_slots.Statement.{statement}
+use Rattle.success_gradients.proofs.success_slots.Tie as tie
+
+ln-f64-requires : tie.Need-ln-f64-requires
+ln-f64-requires c κs = search needs
+
+add-requires : tie.Need-add-requires
+add-requires c κs = search needs
+
+add-requires-2 : tie.Need-add-requires-2
+add-requires-2 c κs = search needs
+
+add-requires-3 : tie.Need-add-requires-3
+add-requires-3 c κs = search needs
+
+add-if-requires : tie.Need-add-if-requires
+add-if-requires c κs = search needs
+
+add-if-requires-2 : tie.Need-add-if-requires-2
+add-if-requires-2 c κs = search needs
+
+same-length : tie.Need-same-length
+same-length c = search needs
+
+returns : tie.Need-returns
+unfolding successSlots
+returns c =
+    rw (c .before .before .add-if2 .ensures, c .before .before .before .before .before .before .add-if .ensures, c .before .before .before .before .before .before .before .before .before .before .add3 .ensures, c .before .before .before .before .before .before .before .before .before .before .before .before .before .before .add2 .ensures, c .before .before .before .before .before .before .before .before .before .before .before .before .before .before .before .before .before .before .add .ensures, c .before .before .before .before .before .before .before .before .before .before .before .before .before .before .before .before .before .before .before .before .before .before .before .before .before .before .before .before .before .before .before .before .before .before .before .before .before .ln-f64 .ensures)
+
+pub success-slots-spec : {M : Type 1} → statement M
+success-slots-spec =
+    tie.close
+    (tie.spec
+    ln-f64-requires
+    add-requires
+    add-requires-2
+    add-requires-3
+    add-if-requires
+    add-if-requires-2
+    same-length
+    returns)
