@@ -6,7 +6,7 @@ use crate::found::fault_at;
 use crate::found::no_fault;
 use crate::place::Fault;
 use reads::prefix_row;
-use reads::target;
+use reads::target_row;
 use tables::cell_of;
 use tables::cut_length;
 use tables::read;
@@ -38,7 +38,7 @@ fn prefix_target(delta_ts: &[f32], labels: &[f32], weights: &[f32], column: u32,
     let k = column as usize;
     let day = read(delta_ts, k);
     let label = read(labels, k);
-    let bad = target(read(weights, k), label, day);
+    let bad = target_row(read(weights, k), label, day);
     fault_at(bad, column, n)
 }
 

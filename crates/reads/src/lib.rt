@@ -118,7 +118,7 @@ pub fn card_row(n: u32, row: u32, day: f32, rating: f32, weight: f32, label: f32
 }
 
 // A prefix's target: weight, label, day; the last two only if the weight counts.
-pub fn target(weight: f32, label: f32, day: f32) -> u32
+pub fn target_row(weight: f32, label: f32, day: f32) -> u32
     ensures { λ r. ⌜ r ≡ targetDef weight label day ⌝ }
 {
     let counts = is_nonzero(weight);
