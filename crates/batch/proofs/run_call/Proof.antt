@@ -1,0 +1,82 @@
+use borrow.Author.Tests.{eq-eqb, ne-eqb}
+use Rattle.batch.specs.File.{callLoss, callSlots}
+use borrow.Author.Needs.{needs}
+use Rattle.batch.proofs.run_call.Statement.{statement}
+use Rattle.batch.proofs.run_call.Tie as tie
+
+fill-singles-requires : tie.Need-fill-singles-requires
+fill-singles-requires c κs = search needs
+
+fill-words-requires : tie.Need-fill-words-requires
+fill-words-requires c κs = search needs
+
+run-prefixes-requires : tie.Need-run-prefixes-requires
+run-prefixes-requires c κs = search needs
+
+same-length : tie.Need-same-length
+same-length c = search needs
+
+same-length-2 : tie.Need-same-length-2
+same-length-2 c = search needs
+
+same-length-3 : tie.Need-same-length-3
+same-length-3 c = search needs
+
+same-length-4 : tie.Need-same-length-4
+same-length-4 c = search needs
+
+returns : tie.Need-returns
+unfolding callLoss callSlots
+returns c =
+    let e = c .before .before .before .before .run-prefixes .ensures in
+    let kind = eq-eqb _ 1 (c .before .before .before .before .before .before .before .before .before .if1 .taken) in (
+      rw kind (rw (c .before .before .before .before .before .before .before .before .before .before .before .before .before .fill-words .ensures, c .before .before .before .before .before .before .before .before .before .before .before .before .before .before .before .before .before .fill-singles .ensures) at (e .0)),
+      rw kind (rw (c .before .before .before .before .before .before .before .before .before .before .before .before .before .fill-words .ensures, c .before .before .before .before .before .before .before .before .before .before .before .before .before .before .before .before .before .fill-singles .ensures) at (e .1)),
+    )
+
+run-cards-requires : tie.Need-run-cards-requires
+run-cards-requires c κs = search needs
+
+same-length-5 : tie.Need-same-length-5
+same-length-5 c = search needs
+
+same-length-6 : tie.Need-same-length-6
+same-length-6 c = search needs
+
+same-length-7 : tie.Need-same-length-7
+same-length-7 c = search needs
+
+same-length-8 : tie.Need-same-length-8
+same-length-8 c = search needs
+
+same-length-9 : tie.Need-same-length-9
+same-length-9 c = search needs
+
+returns-2 : tie.Need-returns-2
+unfolding callLoss callSlots
+returns-2 c =
+    let e = c .before .before .before .before .before .before .run-cards .ensures in
+    let kind = ne-eqb _ 1 (c .before .before .before .before .before .before .before .before .before .before .before .before .if1 .left) in (
+      rw kind (rw (c .before .before .before .before .before .before .before .before .before .before .before .before .before .before .before .before .fill-words .ensures, c .before .before .before .before .before .before .before .before .before .before .before .before .before .before .before .before .before .before .before .before .fill-singles .ensures) at (e .0)),
+      rw kind (rw (c .before .before .before .before .before .before .before .before .before .before .before .before .before .before .before .before .fill-words .ensures, c .before .before .before .before .before .before .before .before .before .before .before .before .before .before .before .before .before .before .before .before .fill-singles .ensures) at (e .1)),
+    )
+
+pub run-call-spec : {M : Type 1} → statement M
+run-call-spec =
+    tie.close
+    (tie.spec
+    fill-singles-requires
+    fill-words-requires
+    run-prefixes-requires
+    same-length
+    same-length-2
+    same-length-3
+    same-length-4
+    returns
+    run-cards-requires
+    same-length-5
+    same-length-6
+    same-length-7
+    same-length-8
+    same-length-9
+    returns-2)

@@ -1,0 +1,65 @@
+use mathlib.Core.Path.{_∙_}
+use Rattle.ends.specs.Ends.{answer}
+use Rattle.headers.proofs.Headers.{accepted-file, refused-file, accepted-sections}
+use Rattle.batch.proofs.Fits.{fits-in}
+use Rattle.batch.specs.File.{fileLoss, fileSlots}
+use borrow.Author.Needs.{needs}
+use Rattle.batch.proofs.run_file.Statement.{statement}
+use Rattle.batch.proofs.run_file.Tie as tie
+
+header-of-requires : tie.Need-header-of-requires
+header-of-requires c κs = search needs
+
+returns : tie.Need-returns
+unfolding fileLoss fileSlots answer
+returns c =
+    let file = c .before .before .before .before .before .args .file .now in
+    let w = refused-file file (λ e. c .if1 .taken (rw (c .before .before .header-of .ensures) e)) in
+    (rw w, rw w)
+
+slice-aggregate-run-sections : tie.Need-slice-aggregate-run-sections
+slice-aggregate-run-sections c = search needs
+
+slice-aggregate-run-sections-2 : tie.Need-slice-aggregate-run-sections-2
+slice-aggregate-run-sections-2 c = search needs
+
+slice-aggregate-run-sections-3 : tie.Need-slice-aggregate-run-sections-3
+slice-aggregate-run-sections-3 c = search needs
+
+slice-aggregate-run-sections-4 : tie.Need-slice-aggregate-run-sections-4
+slice-aggregate-run-sections-4 c = search needs
+
+run-sections-requires : tie.Need-run-sections-requires
+run-sections-requires c κs =
+    let file = c .before .before .before .before .before .before .before .before .before .before .args .file .now in
+    let e = c .before .before .before .before .before .before .before .header-of .ensures in
+    let w = accepted-file file (rw e at (c .before .before .before .before .before .if1 .left)) in
+    let f = fits-in file w _ (e ∙ accepted-sections file w) in
+    (f .0, search (needs, f), search (needs, f), search needs, search needs)
+
+same-length : tie.Need-same-length
+same-length c = search needs
+
+returns-2 : tie.Need-returns-2
+unfolding fileLoss fileSlots
+returns-2 c =
+    let file = c .before .before .before .before .before .before .before .before .before .before .before .before .before .before .before .before .before .args .file .now in
+    let e = c .before .before .before .before .before .before .before .before .before .before .before .before .before .before .header-of .ensures in
+    let w = accepted-file file (rw e at (c .before .before .before .before .before .before .before .before .before .before .before .before .if1 .left)) in
+    let h = e ∙ accepted-sections file w in
+    let r = c .before .before .before .before .before .before .run-sections .ensures in
+    (rw w (rw h at (r .0)), rw w (rw h at (r .1)))
+
+pub run-file-spec : {M : Type 1} → statement M
+run-file-spec =
+    tie.close
+    (tie.spec
+    header-of-requires
+    returns
+    slice-aggregate-run-sections
+    slice-aggregate-run-sections-2
+    slice-aggregate-run-sections-3
+    slice-aggregate-run-sections-4
+    run-sections-requires
+    same-length
+    returns-2)

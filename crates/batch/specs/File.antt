@@ -1,0 +1,95 @@
+-- Document 01, 'Batch file and program': a file as one call. Assumes nothing.
+use Prim.Native.Nat.{ℕ, _-_, _≤_}
+use mathlib.Core.Bool.{cond}
+use mathlib.Core.List.{List}
+use lib.Dec.{eqb}
+use lib.Ieee.{Float}
+use lib.ListN.{take, drop}
+use Rattle.domain.specs.Doubles.{zero64}
+use Rattle.words.specs.Words.{words, singles}
+use Rattle.headers.specs.Header.{sectionsOf, wellFormed}
+use Rattle.headers.specs.declared.Header.{Header}
+use Rattle.tables.specs.Batch.{Prefixes, Cards, prefixesOf, cardsOf}
+use Rattle.ends.specs.Ends.{answer}
+use Rattle.ends.specs.declared.Loss.{Loss}
+use Rattle.prefixes.specs.Prefixes.{batchLossAndGrad, batchSlots}
+use Rattle.cards.specs.Cards.{cardsLossAndGrad, cardsSlots}
+
+-- what stands from the word a up to the word e
+abbrev pub part : (a e : ℕ) (xs : List Float) → List Float
+part a e xs = take (e - a) (drop a xs)
+
+-- the sections follow one another within n words
+abbrev pub inOrder : (h : Header) (n : ℕ) → Type 0
+inOrder h n =
+    (h .weights ≤ h .days) × (h .days ≤ h .ratings) × (h .ratings ≤ h .lengths) × (h .lengths ≤ h .targets) × (h .targets ≤ h .labels) × (h .labels ≤ h .reviews) × (h .reviews ≤ h .end) × (h .end ≤ n)
+
+-- the lent records and step gradients have room for 512 rows, the most that a file has
+abbrev pub RECORDS : ℕ
+RECORDS = 5120
+
+abbrev pub STEPS : ℕ
+STEPS = 512
+
+-- the call of a header: cells are the file's words as singles, lens the lengths
+module _ (h : Header) (cells : List Float) (lens : List ℕ) where
+  abbrev pub weightsIn : List Float
+  weightsIn = part (h .weights) (h .days) cells
+
+  abbrev pub prefixesIn : Prefixes
+  prefixesIn =
+      prefixesOf
+      (part (h .days) (h .ratings) cells)
+      (part (h .ratings) (h .lengths) cells)
+      (h .rows)
+      (h .columns)
+      lens
+      (part (h .targets) (h .labels) cells)
+      (part (h .labels) (h .reviews) cells)
+      (part (h .reviews) (h .end) cells)
+
+  abbrev pub cardsIn : Cards
+  cardsIn =
+      cardsOf
+      (part (h .days) (h .ratings) cells)
+      (part (h .ratings) (h .lengths) cells)
+      (h .rows)
+      (h .columns)
+      lens
+      (part (h .labels) (h .reviews) cells)
+      (part (h .reviews) (h .end) cells)
+
+  unfoldable pub prefixLossIn : (gw : ℕ) → Loss
+  prefixLossIn gw = batchLossAndGrad weightsIn prefixesIn gw RECORDS
+
+  unfoldable pub prefixSlotsIn : (gw : List Float) → List Float
+  prefixSlotsIn gw = batchSlots weightsIn prefixesIn gw RECORDS
+
+  unfoldable pub cardLossIn : (gw : ℕ) → Loss
+  cardLossIn gw = cardsLossAndGrad weightsIn cardsIn gw RECORDS STEPS
+
+  unfoldable pub cardSlotsIn : (gw : List Float) → List Float
+  cardSlotsIn gw = cardsSlots weightsIn cardsIn gw RECORDS STEPS
+
+  -- 'kind (1 prefix, 2 card)'
+  unfoldable pub callLoss : (gw : ℕ) → Loss
+  callLoss gw = cond (eqb (h .kind) 1) (prefixLossIn gw) (cardLossIn gw)
+
+  unfoldable pub callSlots : (gw : List Float) → List Float
+  callSlots gw = cond (eqb (h .kind) 1) (prefixSlotsIn gw) (cardSlotsIn gw)
+
+module _ (file : List ℕ) where
+  -- 'all other entries single bits'
+  abbrev pub cellsOf : List Float
+  cellsOf = singles file 0 (sectionsOf file .end)
+
+  -- 'Lengths are unsigned whole numbers'
+  abbrev pub lengthsOf : List ℕ
+  lengthsOf = words file (sectionsOf file .lengths) (sectionsOf file .columns)
+
+  -- 'Anything else is 11.'
+  unfoldable pub fileLoss : (gw : ℕ) → Loss
+  fileLoss gw = cond (wellFormed file) (callLoss (sectionsOf file) cellsOf lengthsOf gw) (answer 11 zero64)
+
+  unfoldable pub fileSlots : (gw : List Float) → List Float
+  fileSlots gw = cond (wellFormed file) (callSlots (sectionsOf file) cellsOf lengthsOf gw) gw

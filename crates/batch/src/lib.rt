@@ -1,0 +1,145 @@
+// A batch file, run as the one call that it holds.
+ghost use mathlib.Core.Path.{_≡_};
+ghost use Prim.Native.Nat.{_≤_};
+ghost use lib.ListN.{length};
+ghost use Rattle.words.specs.Words.{words, singles};
+ghost use Rattle.batch.specs.File.{RECORDS, STEPS, inOrder, prefixLossIn, prefixSlotsIn, cardLossIn, cardSlotsIn, callLoss, callSlots, fileLoss, fileSlots};
+use cards::grad::card_loss_and_grad;
+use ends::Loss;
+use headers::Header;
+use headers::header_of;
+use prefixes::grad::batch_loss_and_grad;
+use words::fill_singles;
+use words::fill_words;
+
+// Words in the longest file.
+const WORDS: usize = 16384;
+
+// Ten singles for each of 512 rows, the most that a file has.
+const RECORDS: usize = 5120;
+
+// A step gradient for each of them.
+const STEPS: usize = 512;
+
+fn run_prefixes(
+    h: Header,
+    cells: &[f32],
+    lens: &[u32],
+    gw: &mut [f64],
+    records: &mut [f32],
+) -> Loss
+    requires { ⌜ (inOrder h (length (now cells))) × (length (now records) ≡ RECORDS) ⌝ }
+    ensures { λ r. ⌜ (r ≡ prefixLossIn h (now (cells .entry)) (now (lens .entry)) (length (now (gw .entry)))) × (now (gw .exit) ≡ prefixSlotsIn h (now (cells .entry)) (now (lens .entry)) (now (gw .entry))) ⌝ }
+{
+    let weights = h.weights;
+    let days = h.days;
+    let ratings = h.ratings;
+    let lengths = h.lengths;
+    let targets = h.targets;
+    let labels = h.labels;
+    let reviews = h.reviews;
+    let end = h.end;
+    batch_loss_and_grad(
+        &cells[weights..days],
+        &cells[days..ratings],
+        &cells[ratings..lengths],
+        h.rows,
+        h.columns,
+        lens,
+        &cells[targets..labels],
+        &cells[labels..reviews],
+        &cells[reviews..end],
+        gw,
+        records,
+    )
+}
+
+fn run_cards(
+    h: Header,
+    cells: &[f32],
+    lens: &[u32],
+    gw: &mut [f64],
+    records: &mut [f32],
+    step_grads: &mut [f64],
+) -> Loss
+    requires { ⌜ (inOrder h (length (now cells))) × (length (now records) ≡ RECORDS) × (length (now «step_grads») ≡ STEPS) ⌝ }
+    ensures { λ r. ⌜ (r ≡ cardLossIn h (now (cells .entry)) (now (lens .entry)) (length (now (gw .entry)))) × (now (gw .exit) ≡ cardSlotsIn h (now (cells .entry)) (now (lens .entry)) (now (gw .entry))) ⌝ }
+{
+    let weights = h.weights;
+    let days = h.days;
+    let ratings = h.ratings;
+    let lengths = h.lengths;
+    let labels = h.labels;
+    let reviews = h.reviews;
+    let end = h.end;
+    card_loss_and_grad(
+        &cells[weights..days],
+        &cells[days..ratings],
+        &cells[ratings..lengths],
+        h.rows,
+        h.columns,
+        lens,
+        &cells[labels..reviews],
+        &cells[reviews..end],
+        gw,
+        records,
+        step_grads,
+    )
+}
+
+// `cells` and `lens` are lent in the size that the file's words and lengths take.
+fn run_call(
+    file: &[u8],
+    h: Header,
+    cells: &mut [f32],
+    lens: &mut [u32],
+    gw: &mut [f64],
+    records: &mut [f32],
+    step_grads: &mut [f64],
+) -> Loss
+    requires { ⌜ (inOrder h (length (now cells))) × (length (now records) ≡ RECORDS) × (length (now «step_grads») ≡ STEPS) ⌝ }
+    ensures { λ r. ⌜ (r ≡ callLoss h (singles (now (file .entry)) 0 (length (now (cells .entry)))) (words (now (file .entry)) (h .lengths) (length (now (lens .entry)))) (length (now (gw .entry)))) × (now (gw .exit) ≡ callSlots h (singles (now (file .entry)) 0 (length (now (cells .entry)))) (words (now (file .entry)) (h .lengths) (length (now (lens .entry)))) (now (gw .entry))) ⌝ }
+{
+    fill_singles(file, 0, cells);
+    fill_words(file, h.lengths, lens);
+    if h.kind == 1 {
+        return run_prefixes(h, cells, lens, gw, records);
+    }
+    run_cards(h, cells, lens, gw, records, step_grads)
+}
+
+fn run_sections(
+    file: &[u8],
+    h: Header,
+    cells: &mut [f32],
+    lens: &mut [u32],
+    gw: &mut [f64],
+    records: &mut [f32],
+    step_grads: &mut [f64],
+) -> Loss
+    requires { ⌜ (inOrder h (h .end)) × (h .end ≤ length (now cells)) × (h .columns ≤ length (now lens)) × (length (now records) ≡ RECORDS) × (length (now «step_grads») ≡ STEPS) ⌝ }
+    ensures { λ r. ⌜ (r ≡ callLoss h (singles (now (file .entry)) 0 (h .end)) (words (now (file .entry)) (h .lengths) (h .columns)) (length (now (gw .entry)))) × (now (gw .exit) ≡ callSlots h (singles (now (file .entry)) 0 (h .end)) (words (now (file .entry)) (h .lengths) (h .columns)) (now (gw .entry))) ⌝ }
+{
+    let n = h.end;
+    let m = h.columns as usize;
+    run_call(file, h, &mut cells[0..n], &mut lens[0..m], gw, records, step_grads)
+}
+
+// The loss of the call that the file holds, and its gradient, added to the 21 slots of gw. Refusal 11 where the file is
+// malformed; then those of the call. A refused file leaves gw as it was.
+pub fn run_file(file: &[u8], gw: &mut [f64]) -> Loss
+    ensures { λ r. ⌜ (r ≡ fileLoss (now (file .entry)) (length (now (gw .entry)))) × (now (gw .exit) ≡ fileSlots (now (file .entry)) (now (gw .entry))) ⌝ }
+{
+    let h = header_of(file);
+    if h.refusal != 0 {
+        return Loss {
+            refusal: 11,
+            loss: 0.0,
+        };
+    }
+    let mut cells = [0.0f32; WORDS];
+    let mut lens = [0u32; WORDS];
+    let mut records = [0.0f32; RECORDS];
+    let mut step_grads = [0.0f64; STEPS];
+    run_sections(file, h, &mut cells, &mut lens, gw, &mut records, &mut step_grads)
+}
