@@ -21,13 +21,7 @@ const RECORDS: usize = 5120;
 // A step gradient for each of them.
 const STEPS: usize = 512;
 
-fn run_prefixes(
-    h: Header,
-    cells: &[f32],
-    lens: &[u32],
-    gw: &mut [f64],
-    records: &mut [f32],
-) -> Loss
+fn run_prefixes(h: Header, cells: &[f32], lens: &[u32], gw: &mut [f64], records: &mut [f32]) -> Loss
     requires { ⌜ (inOrder h (length (now cells))) × (length (now records) ≡ RECORDS) ⌝ }
     ensures { λ r. ⌜ (r ≡ prefixLossIn h (now (cells .entry)) (now (lens .entry)) (length (now (gw .entry)))) × (now (gw .exit) ≡ prefixSlotsIn h (now (cells .entry)) (now (lens .entry)) (now (gw .entry))) ⌝ }
 {
@@ -122,7 +116,15 @@ fn run_sections(
 {
     let n = h.end;
     let m = h.columns as usize;
-    run_call(file, h, &mut cells[0..n], &mut lens[0..m], gw, records, step_grads)
+    run_call(
+        file,
+        h,
+        &mut cells[0..n],
+        &mut lens[0..m],
+        gw,
+        records,
+        step_grads,
+    )
 }
 
 // The loss of the call that the file holds, and its gradient, added to the 21 slots of gw. Refusal 11 where the file is
@@ -141,5 +143,13 @@ pub fn run_file(file: &[u8], gw: &mut [f64]) -> Loss
     let mut lens = [0u32; WORDS];
     let mut records = [0.0f32; RECORDS];
     let mut step_grads = [0.0f64; STEPS];
-    run_sections(file, h, &mut cells, &mut lens, gw, &mut records, &mut step_grads)
+    run_sections(
+        file,
+        h,
+        &mut cells,
+        &mut lens,
+        gw,
+        &mut records,
+        &mut step_grads,
+    )
 }

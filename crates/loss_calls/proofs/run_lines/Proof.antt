@@ -1,8 +1,8 @@
 -- `run_lines` is safe and ends: the line's number only grows. Assumes nothing.
 use Prim.Native.Nat.{_-_}
 use borrow.Author.Needs.{needs}
-use Rattle.loss_vectors.proofs.run_lines.Statement.{statement}
-use Rattle.loss_vectors.proofs.run_lines.Tie as tie
+use Rattle.loss_calls.proofs.run_lines.Statement.{statement}
+use Rattle.loss_calls.proofs.run_lines.Tie as tie
 
 abbrev Inv-loop : tie.InvT-loop
 Inv-loop passed₀ tried₀ first₀ weights₀ slots₀ line₀ passed tried first weights slots line = Unit {0}

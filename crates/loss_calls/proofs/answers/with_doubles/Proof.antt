@@ -2,8 +2,8 @@
 use Prim.Native.Nat.{_≤_, _-_}
 use lib.ListN.{length}
 use borrow.Author.Needs.{needs}
-use Rattle.loss_vectors.proofs.answers.with_doubles.Statement.{statement}
-use Rattle.loss_vectors.proofs.answers.with_doubles.Tie as tie
+use Rattle.loss_calls.proofs.answers.with_doubles.Statement.{statement}
+use Rattle.loss_calls.proofs.answers.with_doubles.Tie as tie
 
 abbrev Inv-loop : tie.InvT-loop
 Inv-loop h xs sum₀ i₀ sum i = i ≤ length xs

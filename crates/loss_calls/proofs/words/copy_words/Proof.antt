@@ -1,8 +1,8 @@
 -- `copy_words` is safe and ends. Assumes nothing.
 use Prim.Native.Nat.{_≤_, _-_}
 use borrow.Author.Needs.{needs}
-use Rattle.loss_vectors.proofs.words.copy_words.Statement.{statement}
-use Rattle.loss_vectors.proofs.words.copy_words.Tie as tie
+use Rattle.loss_calls.proofs.words.copy_words.Statement.{statement}
+use Rattle.loss_calls.proofs.words.copy_words.Tie as tie
 
 abbrev Inv-loop : tie.InvT-loop
 Inv-loop from to₀ i₀ to i = i ≤ 640

@@ -1,17 +1,26 @@
--- `count_singles` is safe and ends. Assumes nothing.
+-- `set_singles` is safe and ends. Assumes nothing.
 use Prim.Native.Nat.{_≤_, _-_}
 use borrow.Author.Needs.{needs}
-use Rattle.loss_vectors.proofs.words.count_singles.Statement.{statement}
-use Rattle.loss_vectors.proofs.words.count_singles.Tie as tie
+use Rattle.loss_calls.proofs.words.set_singles.Statement.{statement}
+use Rattle.loss_calls.proofs.words.set_singles.Tie as tie
 
 abbrev Inv-loop : tie.InvT-loop
-Inv-loop first to₀ b₀ i₀ to b i = i ≤ 640
+Inv-loop k at to₀ i₀ to i = i ≤ 128
 
 abbrev μ-loop : tie.MeasureT-loop
-μ-loop first to₀ b₀ i₀ to b i = 640 - i
+μ-loop k at to₀ i₀ to i = 128 - i
 
 loop-holds : tie.Need-loop-holds Inv-loop μ-loop
 loop-holds c = search needs
+
+add-next : tie.Need-add-next Inv-loop μ-loop
+add-next c = search needs
+
+wrapping-add-usize-requires : tie.Need-wrapping-add-usize-requires Inv-loop μ-loop
+wrapping-add-usize-requires c κs = search needs
+
+word-at-requires : tie.Need-word-at-requires Inv-loop μ-loop
+word-at-requires c κs = search needs
 
 f32-of-requires : tie.Need-f32-of-requires Inv-loop μ-loop
 f32-of-requires c κs = search needs
@@ -22,12 +31,6 @@ mul-to c = search needs
 element-write-to : tie.Need-element-write-to Inv-loop μ-loop
 element-write-to c = search needs
 
-wrapping-add-u64-requires : tie.Need-wrapping-add-u64-requires Inv-loop μ-loop
-wrapping-add-u64-requires c κs = search needs
-
-add-i : tie.Need-add-i Inv-loop μ-loop
-add-i c = search needs
-
 loop-less : tie.Need-loop-less Inv-loop μ-loop
 loop-less c = search needs
 
@@ -37,18 +40,19 @@ loop-again c = search needs
 returns : tie.Need-returns Inv-loop μ-loop
 returns c = search needs
 
-pub count-singles-spec : {M : Type 1} → statement M
-count-singles-spec =
+pub set-singles-spec : {M : Type 1} → statement M
+set-singles-spec =
     tie.close
     (tie.spec
     Inv-loop
     μ-loop
     loop-holds
+    add-next
+    wrapping-add-usize-requires
+    word-at-requires
     f32-of-requires
     mul-to
     element-write-to
-    wrapping-add-u64-requires
-    add-i
     loop-less
     loop-again
     returns)

@@ -1,8 +1,8 @@
 -- `count_doubles` is safe and ends. Assumes nothing.
 use Prim.Native.Nat.{_≤_, _-_}
 use borrow.Author.Needs.{needs}
-use Rattle.loss_vectors.proofs.words.count_doubles.Statement.{statement}
-use Rattle.loss_vectors.proofs.words.count_doubles.Tie as tie
+use Rattle.loss_calls.proofs.words.count_doubles.Statement.{statement}
+use Rattle.loss_calls.proofs.words.count_doubles.Tie as tie
 
 abbrev Inv-loop : tie.InvT-loop
 Inv-loop first to₀ b₀ i₀ to b i = i ≤ 64
