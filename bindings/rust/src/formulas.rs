@@ -1,0 +1,157 @@
+//! Weight sets, and the study screen's formulas on them.
+
+use crate::{raw, Refusal, State, WEIGHTS};
+
+/// A set of 0, 17, 19 or 21 weights made whole: none gives the defaults, a shorter one is of an older version.
+///
+/// Refusals: [`Refusal::FillingCount`], [`Refusal::WeightBox`].
+///
+/// ```
+/// use fsrs6::{check_and_fill_parameters, Refusal};
+/// let w = check_and_fill_parameters(&[])?;
+/// assert_eq!(check_and_fill_parameters(&w), Ok(w));
+/// assert_eq!(check_and_fill_parameters(&w[..18]), Err(Refusal::FillingCount));
+/// # Ok::<(), Refusal>(())
+/// ```
+pub fn check_and_fill_parameters(parameters: &[f32]) -> Result<[f32; WEIGHTS], Refusal> {
+    raw::check_and_fill_parameters(parameters)
+}
+
+/// The probability of recall `t` days after a review that left the stability `s`.
+///
+/// Refusals: [`Refusal::WeightCount`], [`Refusal::WeightBox`], [`Refusal::Scalar`].
+///
+/// ```
+/// use fsrs6::{check_and_fill_parameters, power_forgetting_curve, Refusal};
+/// let w = check_and_fill_parameters(&[])?;
+/// assert_eq!(power_forgetting_curve(&w, 0.0, 5.0), Ok(1.0));
+/// assert!(power_forgetting_curve(&w, 9.0, 5.0)? < 0.9);
+/// assert_eq!(power_forgetting_curve(&w, f32::NAN, 5.0), Err(Refusal::Scalar));
+/// # Ok::<(), Refusal>(())
+/// ```
+pub fn power_forgetting_curve(w: &[f32], t: f32, s: f32) -> Result<f32, Refusal> {
+    raw::power_forgetting_curve(w, t, s)
+}
+
+/// The days after which the desired retention is reached.
+///
+/// Refusals: [`Refusal::WeightCount`], [`Refusal::WeightBox`], [`Refusal::Scalar`].
+///
+/// ```
+/// use fsrs6::{check_and_fill_parameters, next_interval, Refusal};
+/// let w = check_and_fill_parameters(&[])?;
+/// assert!(next_interval(&w, 5.0, 0.8)? > next_interval(&w, 5.0, 0.9)?);
+/// assert_eq!(next_interval(&w, f32::INFINITY, 0.9), Err(Refusal::Scalar));
+/// # Ok::<(), Refusal>(())
+/// ```
+pub fn next_interval(w: &[f32], stability: f32, desired_retention: f32) -> Result<f32, Refusal> {
+    raw::next_interval(w, stability, desired_retention)
+}
+
+/// The difficulty after a first review, not clamped.
+///
+/// Refusals: [`Refusal::WeightCount`], [`Refusal::WeightBox`], [`Refusal::Scalar`].
+///
+/// ```
+/// use fsrs6::{check_and_fill_parameters, init_difficulty, Refusal};
+/// let w = check_and_fill_parameters(&[])?;
+/// assert_eq!(init_difficulty(&w, 1), Ok(w[4]));
+/// assert_eq!(init_difficulty(&w, 5), Err(Refusal::Scalar));
+/// # Ok::<(), Refusal>(())
+/// ```
+pub fn init_difficulty(w: &[f32], rating: u32) -> Result<f32, Refusal> {
+    raw::init_difficulty(w, rating)
+}
+
+/// A difficulty moved a little towards that of an easy first review.
+///
+/// Refusals: [`Refusal::WeightCount`], [`Refusal::WeightBox`], [`Refusal::Scalar`].
+///
+/// ```
+/// use fsrs6::{check_and_fill_parameters, mean_reversion, Refusal};
+/// let mut w = check_and_fill_parameters(&[])?;
+/// w[7] = 0.0; // the share of the first
+/// assert_eq!(mean_reversion(&w, 3.0, 6.0), Ok(6.0));
+/// assert_eq!(mean_reversion(&w, f32::NAN, 6.0), Err(Refusal::Scalar));
+/// # Ok::<(), Refusal>(())
+/// ```
+pub fn mean_reversion(w: &[f32], init: f32, current: f32) -> Result<f32, Refusal> {
+    raw::mean_reversion(w, init, current)
+}
+
+/// The difficulty after a review of a card of difficulty `d`.
+///
+/// Refusals: [`Refusal::WeightCount`], [`Refusal::WeightBox`], [`Refusal::Scalar`].
+///
+/// ```
+/// use fsrs6::{check_and_fill_parameters, next_difficulty, Refusal};
+/// let w = check_and_fill_parameters(&[])?;
+/// assert!(next_difficulty(&w, 5.0, 1)? > next_difficulty(&w, 5.0, 4)?);
+/// assert_eq!(next_difficulty(&w, 0.5, 3), Err(Refusal::Scalar));
+/// # Ok::<(), Refusal>(())
+/// ```
+pub fn next_difficulty(w: &[f32], d: f32, rating: u32) -> Result<f32, Refusal> {
+    raw::next_difficulty(w, d, rating)
+}
+
+/// The stability after a review that succeeded, at the retrievability `r`.
+///
+/// Refusals: [`Refusal::WeightCount`], [`Refusal::WeightBox`], [`Refusal::Scalar`].
+///
+/// ```
+/// use fsrs6::{check_and_fill_parameters, stability_after_success, Refusal};
+/// let w = check_and_fill_parameters(&[])?;
+/// assert!(stability_after_success(&w, 5.0, 0.9, 6.0, 3)? > 5.0);
+/// assert_eq!(stability_after_success(&w, 5.0, 1.5, 6.0, 3), Err(Refusal::Scalar));
+/// # Ok::<(), Refusal>(())
+/// ```
+pub fn stability_after_success(w: &[f32], s: f32, r: f32, d: f32, rating: u32) -> Result<f32, Refusal> {
+    raw::stability_after_success(w, s, r, d, rating)
+}
+
+/// The stability after a lapse, at the retrievability `r`.
+///
+/// Refusals: [`Refusal::WeightCount`], [`Refusal::WeightBox`], [`Refusal::Scalar`].
+///
+/// ```
+/// use fsrs6::{check_and_fill_parameters, stability_after_failure, Refusal};
+/// let w = check_and_fill_parameters(&[])?;
+/// assert!(stability_after_failure(&w, 5.0, 0.9, 6.0)? < 5.0);
+/// assert_eq!(stability_after_failure(&w, 5.0, 0.9, 11.0), Err(Refusal::Scalar));
+/// # Ok::<(), Refusal>(())
+/// ```
+pub fn stability_after_failure(w: &[f32], s: f32, r: f32, d: f32) -> Result<f32, Refusal> {
+    raw::stability_after_failure(w, s, r, d)
+}
+
+/// The stability after a second review on the same day.
+///
+/// Refusals: [`Refusal::WeightCount`], [`Refusal::WeightBox`], [`Refusal::Scalar`].
+///
+/// ```
+/// use fsrs6::{check_and_fill_parameters, stability_short_term, Refusal};
+/// let w = check_and_fill_parameters(&[])?;
+/// assert!(stability_short_term(&w, 5.0, 3)? >= 5.0);
+/// assert_eq!(stability_short_term(&w, 5.0, 0), Err(Refusal::Scalar));
+/// # Ok::<(), Refusal>(())
+/// ```
+pub fn stability_short_term(w: &[f32], s: f32, rating: u32) -> Result<f32, Refusal> {
+    raw::stability_short_term(w, s, rating)
+}
+
+/// The state after a review `delta_t` days after the last one. Any rating is taken, and clamped to 1-4.
+///
+/// Refusals: [`Refusal::WeightCount`], [`Refusal::WeightBox`], [`Refusal::Scalar`].
+///
+/// ```
+/// use fsrs6::{check_and_fill_parameters, next_state, Refusal, State};
+/// let w = check_and_fill_parameters(&[])?;
+/// let state = State { stability: 5.0, difficulty: 6.0 };
+/// assert!(next_state(&w, state, 4.0, 1)?.stability < 5.0);
+/// assert_eq!(next_state(&w, state, 4.0, 9), next_state(&w, state, 4.0, 4));
+/// assert_eq!(next_state(&w, state, 200000.0, 3), Err(Refusal::Scalar));
+/// # Ok::<(), Refusal>(())
+/// ```
+pub fn next_state(w: &[f32], state: State, delta_t: f32, rating: u32) -> Result<State, Refusal> {
+    raw::next_state(w, state, delta_t, rating)
+}

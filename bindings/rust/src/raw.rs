@@ -1,0 +1,352 @@
+//! The C functions of `include/fsrs6.h`, and around each a safe one: the only unsafe code.
+//!
+//! What C cannot check is what the header asks of its caller, and Rust's references are just that: not null and aligned,
+//! a slice's pointer also where it is empty; as many entries as the slice's length says; and nothing else that is lent
+//! overlaps what is lent by `&mut`. This is the ground of every call below.
+
+use crate::{Cards, Prefixes, Refusal, State, StateGradient, Step, Stepped, RECORD, WEIGHTS};
+
+/// The declarations, as in the header.
+mod c {
+    extern "C" {
+        pub fn fsrs_exp_f32(x: f32) -> f32;
+        pub fn fsrs_exp_f64(x: f64) -> f64;
+        pub fn fsrs_ln_f32(x: f32) -> f32;
+        pub fn fsrs_ln_f64(x: f64) -> f64;
+        pub fn fsrs_pow_f32(x: f32, y: f32) -> f32;
+        pub fn fsrs_pow_f64(x: f64, y: f64) -> f64;
+        pub fn fsrs_fma_f32(x: f32, y: f32, z: f32) -> f32;
+        pub fn fsrs_fma_f64(x: f64, y: f64, z: f64) -> f64;
+        pub fn fsrs_round_f32(x: f32) -> f32;
+        pub fn fsrs_round_f64(x: f64) -> f64;
+
+        pub fn fsrs_check_and_fill_parameters(parameters: *const f32, parameters_len: usize, weights: *mut f32) -> u32;
+        pub fn fsrs_power_forgetting_curve(
+            w: *const f32,
+            w_len: usize,
+            t: f32,
+            s: f32,
+            retrievability: *mut f32,
+        ) -> u32;
+        pub fn fsrs_next_interval(
+            w: *const f32,
+            w_len: usize,
+            stability: f32,
+            desired_retention: f32,
+            days: *mut f32,
+        ) -> u32;
+        pub fn fsrs_init_difficulty(w: *const f32, w_len: usize, rating: u32, difficulty: *mut f32) -> u32;
+        pub fn fsrs_mean_reversion(w: *const f32, w_len: usize, init: f32, current: f32, difficulty: *mut f32) -> u32;
+        pub fn fsrs_next_difficulty(w: *const f32, w_len: usize, d: f32, rating: u32, difficulty: *mut f32) -> u32;
+        pub fn fsrs_stability_after_success(
+            w: *const f32,
+            w_len: usize,
+            s: f32,
+            r: f32,
+            d: f32,
+            rating: u32,
+            stability: *mut f32,
+        ) -> u32;
+        pub fn fsrs_stability_after_failure(
+            w: *const f32,
+            w_len: usize,
+            s: f32,
+            r: f32,
+            d: f32,
+            stability: *mut f32,
+        ) -> u32;
+        pub fn fsrs_stability_short_term(w: *const f32, w_len: usize, s: f32, rating: u32, stability: *mut f32) -> u32;
+        pub fn fsrs_next_state(
+            w: *const f32,
+            w_len: usize,
+            stability: f32,
+            difficulty: f32,
+            delta_t: f32,
+            rating: u32,
+            next_stability: *mut f32,
+            next_difficulty: *mut f32,
+        ) -> u32;
+
+        pub fn fsrs_training_step(
+            w: *const f32,
+            w_len: usize,
+            stability: f32,
+            difficulty: f32,
+            day: f32,
+            rating: f32,
+            row: usize,
+            next_stability: *mut f32,
+            next_difficulty: *mut f32,
+            record: *mut f32,
+        ) -> u32;
+        pub fn fsrs_training_step_backward(
+            w: *const f32,
+            w_len: usize,
+            stability: f32,
+            difficulty: f32,
+            day: f32,
+            rating: f32,
+            row: usize,
+            g_s: f64,
+            g_d: f64,
+            g_r: f64,
+            gw: *mut f64,
+            gw_len: usize,
+            grad_s: *mut f64,
+            grad_d: *mut f64,
+        ) -> u32;
+
+        pub fn fsrs_batch_loss(
+            w: *const f32,
+            w_len: usize,
+            t_hist: *const f32,
+            t_hist_len: usize,
+            r_hist: *const f32,
+            r_hist_len: usize,
+            seq_len: u32,
+            batch: u32,
+            seq_lens: *const u32,
+            seq_lens_len: usize,
+            delta_ts: *const f32,
+            delta_ts_len: usize,
+            labels: *const f32,
+            labels_len: usize,
+            weights: *const f32,
+            weights_len: usize,
+            loss: *mut f64,
+        ) -> u32;
+        pub fn fsrs_batch_loss_and_grad(
+            w: *const f32,
+            w_len: usize,
+            t_hist: *const f32,
+            t_hist_len: usize,
+            r_hist: *const f32,
+            r_hist_len: usize,
+            seq_len: u32,
+            batch: u32,
+            seq_lens: *const u32,
+            seq_lens_len: usize,
+            delta_ts: *const f32,
+            delta_ts_len: usize,
+            labels: *const f32,
+            labels_len: usize,
+            weights: *const f32,
+            weights_len: usize,
+            gw: *mut f64,
+            gw_len: usize,
+            records: *mut f32,
+            records_len: usize,
+            loss: *mut f64,
+        ) -> u32;
+        pub fn fsrs_card_loss(
+            w: *const f32,
+            w_len: usize,
+            t_hist: *const f32,
+            t_hist_len: usize,
+            r_hist: *const f32,
+            r_hist_len: usize,
+            seq_len: u32,
+            batch: u32,
+            seq_lens: *const u32,
+            seq_lens_len: usize,
+            labels: *const f32,
+            labels_len: usize,
+            weights: *const f32,
+            weights_len: usize,
+            loss: *mut f64,
+        ) -> u32;
+        pub fn fsrs_card_loss_and_grad(
+            w: *const f32,
+            w_len: usize,
+            t_hist: *const f32,
+            t_hist_len: usize,
+            r_hist: *const f32,
+            r_hist_len: usize,
+            seq_len: u32,
+            batch: u32,
+            seq_lens: *const u32,
+            seq_lens_len: usize,
+            labels: *const f32,
+            labels_len: usize,
+            weights: *const f32,
+            weights_len: usize,
+            gw: *mut f64,
+            gw_len: usize,
+            records: *mut f32,
+            records_len: usize,
+            step_grads: *mut f64,
+            step_grads_len: usize,
+            loss: *mut f64,
+        ) -> u32;
+        #[cfg(feature = "batch_file")]
+        pub fn fsrs_batch_file(file: *const u8, file_len: usize, gw: *mut f64, gw_len: usize, loss: *mut f64) -> u32;
+    }
+}
+
+/// Kernels: numbers in, a number out.
+macro_rules! kernels {
+    ($($name:ident = $c:ident($($x:ident),*): $float:ty;)*) => {$(
+        pub fn $name($($x: $float),*) -> $float {
+            // SAFETY: the function takes any numbers and no memory.
+            unsafe { c::$c($($x),*) }
+        }
+    )*};
+}
+
+kernels! {
+    exp_f32 = fsrs_exp_f32(x): f32;
+    exp_f64 = fsrs_exp_f64(x): f64;
+    ln_f32 = fsrs_ln_f32(x): f32;
+    ln_f64 = fsrs_ln_f64(x): f64;
+    pow_f32 = fsrs_pow_f32(x, y): f32;
+    pow_f64 = fsrs_pow_f64(x, y): f64;
+    fma_f32 = fsrs_fma_f32(x, y, z): f32;
+    fma_f64 = fsrs_fma_f64(x, y, z): f64;
+    round_f32 = fsrs_round_f32(x): f32;
+    round_f64 = fsrs_round_f64(x): f64;
+}
+
+/// Formulas: a weight set and numbers in, one single out.
+macro_rules! formulas {
+    ($($name:ident = $c:ident($($x:ident: $type:ty),*);)*) => {$(
+        pub fn $name(w: &[f32], $($x: $type),*) -> Result<f32, Refusal> {
+            let mut answer = 0.0;
+            // SAFETY: w is a slice with its own length, and answer is this function's.
+            let number = unsafe { c::$c(w.as_ptr(), w.len(), $($x,)* &mut answer) };
+            Refusal::accepted(number, answer)
+        }
+    )*};
+}
+
+formulas! {
+    power_forgetting_curve = fsrs_power_forgetting_curve(t: f32, s: f32);
+    next_interval = fsrs_next_interval(stability: f32, desired_retention: f32);
+    init_difficulty = fsrs_init_difficulty(rating: u32);
+    mean_reversion = fsrs_mean_reversion(init: f32, current: f32);
+    next_difficulty = fsrs_next_difficulty(d: f32, rating: u32);
+    stability_after_success = fsrs_stability_after_success(s: f32, r: f32, d: f32, rating: u32);
+    stability_after_failure = fsrs_stability_after_failure(s: f32, r: f32, d: f32);
+    stability_short_term = fsrs_stability_short_term(s: f32, rating: u32);
+}
+
+pub fn check_and_fill_parameters(parameters: &[f32]) -> Result<[f32; WEIGHTS], Refusal> {
+    let mut weights = [0.0; WEIGHTS];
+    // SAFETY: parameters is a slice with its own length; weights has the 21 places and is this function's.
+    let number =
+        unsafe { c::fsrs_check_and_fill_parameters(parameters.as_ptr(), parameters.len(), weights.as_mut_ptr()) };
+    Refusal::accepted(number, weights)
+}
+
+pub fn next_state(w: &[f32], q: State, delta_t: f32, rating: u32) -> Result<State, Refusal> {
+    let mut next = State::default();
+    // SAFETY: w is a slice with its own length; the two places are apart and this function's.
+    let number = unsafe {
+        c::fsrs_next_state(
+            w.as_ptr(),
+            w.len(),
+            q.stability,
+            q.difficulty,
+            delta_t,
+            rating,
+            &mut next.stability,
+            &mut next.difficulty,
+        )
+    };
+    Refusal::accepted(number, next)
+}
+
+pub fn training_step(w: &[f32], x: Step) -> Result<Stepped, Refusal> {
+    let mut next = Stepped { state: State::default(), record: [0.0; RECORD] };
+    // SAFETY: w is a slice with its own length; the two places and the ten of the record are apart and this function's.
+    let number = unsafe {
+        c::fsrs_training_step(
+            w.as_ptr(),
+            w.len(),
+            x.state.stability,
+            x.state.difficulty,
+            x.day,
+            x.rating,
+            x.row,
+            &mut next.state.stability,
+            &mut next.state.difficulty,
+            next.record.as_mut_ptr(),
+        )
+    };
+    Refusal::accepted(number, next)
+}
+
+pub fn training_step_backward(
+    w: &[f32],
+    x: Step,
+    after: StateGradient,
+    by_retrievability: f64,
+    gw: &mut [f64],
+) -> Result<StateGradient, Refusal> {
+    let mut before = StateGradient::default();
+    // SAFETY: w and gw are slices with their own lengths, gw by &mut; the two places are apart and this function's.
+    let number = unsafe {
+        c::fsrs_training_step_backward(
+            w.as_ptr(),
+            w.len(),
+            x.state.stability,
+            x.state.difficulty,
+            x.day,
+            x.rating,
+            x.row,
+            after.stability,
+            after.difficulty,
+            by_retrievability,
+            gw.as_mut_ptr(),
+            gw.len(),
+            &mut before.stability,
+            &mut before.difficulty,
+        )
+    };
+    Refusal::accepted(number, before)
+}
+
+/// Losses: a weight set and a batch in, what is lent by `&mut`, one double out.
+macro_rules! losses {
+    ($($name:ident = $c:ident($x:ident: $batch:ident, [$($read:ident),*], [$($lent:ident: $float:ty),*]);)*) => {$(
+        pub fn $name(w: &[f32], $x: &$batch, $($lent: &mut [$float]),*) -> Result<f64, Refusal> {
+            let mut loss = 0.0;
+            // SAFETY: each pointer is a slice's and goes with that slice's length; what is written is lent by &mut, or
+            // this function's.
+            let number = unsafe {
+                c::$c(
+                    w.as_ptr(),
+                    w.len(),
+                    $x.days.as_ptr(),
+                    $x.days.len(),
+                    $x.ratings.as_ptr(),
+                    $x.ratings.len(),
+                    $x.rows,
+                    $x.columns,
+                    $x.lengths.as_ptr(),
+                    $x.lengths.len(),
+                    $($x.$read.as_ptr(), $x.$read.len(),)*
+                    $($lent.as_mut_ptr(), $lent.len(),)*
+                    &mut loss,
+                )
+            };
+            Refusal::accepted(number, loss)
+        }
+    )*};
+}
+
+losses! {
+    batch_loss = fsrs_batch_loss(x: Prefixes, [target_days, labels, weights], []);
+    batch_loss_and_grad = fsrs_batch_loss_and_grad(
+        x: Prefixes, [target_days, labels, weights], [gw: f64, records: f32]);
+    card_loss = fsrs_card_loss(x: Cards, [labels, weights], []);
+    card_loss_and_grad = fsrs_card_loss_and_grad(
+        x: Cards, [labels, weights], [gw: f64, records: f32, step_grads: f64]);
+}
+
+#[cfg(feature = "batch_file")]
+pub fn batch_file(file: &[u8], gw: &mut [f64]) -> Result<f64, Refusal> {
+    let mut loss = 0.0;
+    // SAFETY: file and gw are slices with their own lengths, gw by &mut; loss is this function's.
+    let number = unsafe { c::fsrs_batch_file(file.as_ptr(), file.len(), gw.as_mut_ptr(), gw.len(), &mut loss) };
+    Refusal::accepted(number, loss)
+}

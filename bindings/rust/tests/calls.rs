@@ -1,0 +1,308 @@
+//! Every function once with an answer that follows from document 01, and once for each refusal that it can give. After a
+//! refused call what was lent must have the bits that it had.
+
+use fsrs6::*;
+
+const ROWS: usize = 3;
+const COLUMNS: usize = 2;
+const CELLS: usize = ROWS * COLUMNS;
+/// The next single after the last day.
+const BEYOND: f32 = 100000.0 + 0.0078125;
+
+/// What a call is given and lent.
+#[derive(Clone)]
+struct Call {
+    w: Vec<f32>,
+    step: Step,
+    rating: u32,
+    rows: u32,
+    columns: u32,
+    lengths: Vec<u32>,
+    days: Vec<f32>,
+    ratings: Vec<f32>,
+    labels: Vec<f32>,
+    weights: Vec<f32>,
+    gw: Vec<f64>,
+    records: Vec<f32>,
+    step_grads: Vec<f64>,
+}
+
+impl Call {
+    /// A call that every function accepts, over the default weights.
+    fn good() -> Call {
+        Call {
+            w: check_and_fill_parameters(&[]).expect("the defaults").to_vec(),
+            step: Step { state: State { stability: 5.0, difficulty: 6.0 }, day: 4.0, rating: 3.0, row: 1 },
+            rating: 3,
+            rows: ROWS as u32,
+            columns: COLUMNS as u32,
+            lengths: vec![ROWS as u32, ROWS as u32 - 1],
+            days: vec![0.0, 0.0, 4.0, 0.0, 9.0, 2.0],
+            ratings: vec![3.0, 1.0, 2.0, 3.0, 1.0, 4.0],
+            labels: vec![1.0, 0.0, 0.0, 1.0, 1.0, 0.5],
+            weights: vec![1.0, 2.0, 0.5, 1.0, 1.0, 3.0],
+            gw: (0..WEIGHTS).map(|i| i as f64).collect(),
+            records: vec![7.0; RECORD * ROWS],
+            step_grads: vec![8.0; ROWS],
+        }
+    }
+
+    fn with(change: impl FnOnce(&mut Call)) -> Call {
+        let mut x = Call::good();
+        change(&mut x);
+        x
+    }
+
+    fn prefixes(&self) -> Prefixes<'_> {
+        Prefixes {
+            rows: self.rows,
+            columns: self.columns,
+            days: &self.days,
+            ratings: &self.ratings,
+            lengths: &self.lengths,
+            target_days: &self.days[..COLUMNS],
+            labels: &self.labels[..COLUMNS],
+            weights: &self.weights[..COLUMNS],
+        }
+    }
+
+    fn cards(&self) -> Cards<'_> {
+        Cards {
+            rows: self.rows,
+            columns: self.columns,
+            days: &self.days,
+            ratings: &self.ratings,
+            lengths: &self.lengths,
+            labels: &self.labels,
+            weights: &self.weights,
+        }
+    }
+
+    /// The bits of all that a call may write.
+    fn lent(&self) -> (Vec<u64>, Vec<u32>, Vec<u64>) {
+        let bits = |xs: &[f64]| xs.iter().map(|x| x.to_bits()).collect();
+        (bits(&self.gw), self.records.iter().map(|x| x.to_bits()).collect(), bits(&self.step_grads))
+    }
+}
+
+/// A function on its part of a call; its answer is of no interest here.
+type Function = fn(&mut Call) -> Result<(), Refusal>;
+
+macro_rules! function {
+    (|$x:ident| $call:expr) => {
+        |$x: &mut Call| $call.map(drop)
+    };
+}
+
+const FORMULAS: [Function; 9] = [
+    function!(|x| power_forgetting_curve(&x.w, x.step.day, x.step.state.stability)),
+    function!(|x| next_interval(&x.w, x.step.state.stability, 0.9)),
+    function!(|x| init_difficulty(&x.w, x.rating)),
+    function!(|x| mean_reversion(&x.w, x.step.state.stability, x.step.state.difficulty)),
+    function!(|x| next_difficulty(&x.w, x.step.state.difficulty, x.rating)),
+    function!(|x| stability_after_success(&x.w, x.step.state.stability, 0.9, x.step.state.difficulty, x.rating)),
+    function!(|x| stability_after_failure(&x.w, x.step.state.stability, 0.9, x.step.state.difficulty)),
+    function!(|x| stability_short_term(&x.w, x.step.state.stability, x.rating)),
+    function!(|x| next_state(&x.w, x.step.state, x.step.day, x.rating)),
+];
+const FILL: Function = function!(|x| check_and_fill_parameters(&x.w));
+const STEP: Function = function!(|x| training_step(&x.w, x.step));
+const STEP_BACKWARD: Function = |x| {
+    let after = StateGradient { stability: 1.0, difficulty: -2.0 };
+    training_step_backward(&x.w, x.step, after, 0.5, &mut x.gw).map(drop)
+};
+const PREFIX: Function = function!(|x| batch_loss(&x.w, &x.prefixes()));
+const PREFIX_GRAD: Function = |x| {
+    let y = x.clone();
+    batch_loss_and_grad(&y.w, &y.prefixes(), &mut x.gw, &mut x.records).map(drop)
+};
+const CARD: Function = function!(|x| card_loss(&x.w, &x.cards()));
+const CARD_GRAD: Function = |x| {
+    let y = x.clone();
+    card_loss_and_grad(&y.w, &y.cards(), &mut x.gw, &mut x.records, &mut x.step_grads).map(drop)
+};
+
+/// Each function accepts the good call, and refuses it with the fault, writing nothing.
+fn refuse(functions: &[Function], refusal: Refusal, fault: fn(&mut Call)) {
+    for (i, function) in functions.iter().enumerate() {
+        assert_eq!(function(&mut Call::good()), Ok(()), "function {i}");
+        let mut x = Call::with(fault);
+        let lent = x.lent();
+        assert_eq!(function(&mut x), Err(refusal), "function {i}");
+        assert_eq!(x.lent(), lent, "function {i}: {refusal}, and something was written");
+    }
+}
+
+#[test]
+fn weights_are_refused() {
+    let mut functions = FORMULAS.to_vec();
+    functions.extend([STEP, STEP_BACKWARD, PREFIX, PREFIX_GRAD, CARD, CARD_GRAD]);
+    refuse(&functions, Refusal::WeightCount, |x| x.w.truncate(20));
+    refuse(&functions, Refusal::WeightCount, |x| x.w.clear());
+    functions.push(FILL);
+    refuse(&functions, Refusal::WeightBox, |x| x.w[20] = 1.5);
+    refuse(&functions, Refusal::WeightBox, |x| x.w[0] = f32::NAN);
+    refuse(&[FILL], Refusal::FillingCount, |x| x.w.truncate(20));
+}
+
+#[test]
+fn scalars_are_refused() {
+    let mut functions = FORMULAS.to_vec();
+    functions.extend([STEP, STEP_BACKWARD]);
+    refuse(&functions, Refusal::Scalar, |x| {
+        x.step.state = State { stability: f32::INFINITY, difficulty: f32::NAN };
+        x.rating = 5;
+    });
+}
+
+#[test]
+fn slots_sizes_and_room_are_refused() {
+    refuse(&[STEP_BACKWARD, PREFIX_GRAD, CARD_GRAD], Refusal::SlotCount, |x| x.gw.truncate(20));
+    let losses = [PREFIX, PREFIX_GRAD, CARD, CARD_GRAD];
+    refuse(&losses, Refusal::Sizes, |x| x.rows = MAX_ROWS + 1);
+    refuse(&losses, Refusal::Sizes, |x| x.columns = MAX_COLUMNS + 1);
+    refuse(&losses, Refusal::Sizes, |x| x.days.truncate(CELLS - 1));
+    refuse(&losses, Refusal::Sizes, |x| x.ratings.clear());
+    refuse(&losses, Refusal::Sizes, |x| x.lengths.clear());
+    refuse(&[PREFIX_GRAD, CARD_GRAD], Refusal::Room, |x| x.records.truncate(RECORD * ROWS - 1));
+    refuse(&[CARD_GRAD], Refusal::Room, |x| x.step_grads.clear());
+}
+
+#[test]
+fn reviews_are_refused() {
+    let losses = [PREFIX, PREFIX_GRAD, CARD, CARD_GRAD];
+    let mut functions = losses.to_vec();
+    functions.extend([STEP, STEP_BACKWARD]);
+    refuse(&functions, Refusal::Rating, |x| {
+        x.step.rating = 5.0;
+        x.ratings[0] = 5.0;
+    });
+    refuse(&functions, Refusal::Day, |x| {
+        x.step.day = BEYOND;
+        x.days[COLUMNS] = BEYOND;
+    });
+    refuse(&losses, Refusal::Review, |x| x.labels.fill(1.5));
+    refuse(&losses, Refusal::Review, |x| x.weights.fill(f32::NAN));
+    refuse(&[PREFIX, PREFIX_GRAD], Refusal::EmptyPrefix, |x| x.lengths[1] = 0);
+}
+
+#[test]
+fn refusals_have_document_01s_numbers() {
+    for (i, refusal) in Refusal::ALL.into_iter().enumerate() {
+        assert_eq!(refusal.number(), i as u32 + 1);
+        assert!(!refusal.to_string().is_empty());
+    }
+}
+
+#[test]
+fn kernels_answer() {
+    assert_eq!((exp_f32(-0.0), exp_f64(-0.0)), (Ok(1.0), Ok(1.0)));
+    assert_eq!((exp_f32(-89.0), exp_f64(710.0)), (Ok(0.0), Ok(f64::INFINITY)));
+    assert_eq!((ln_f32(1.0), ln_f64(1.0)), (Ok(0.0), Ok(0.0)));
+    assert_eq!((pow_f32(1.0, 16.0), pow_f64(7.0, -0.0)), (Ok(1.0), Ok(1.0)));
+    assert_eq!((round_f32(2.5), round_f64(-2.5)), (3.0, -3.0));
+    assert!(round_f32(f32::NAN).is_nan() && fma_f64(0.0, f64::INFINITY, 1.0).is_nan());
+}
+
+#[test]
+fn kernels_refuse() {
+    for x in [f32::INFINITY, f32::NEG_INFINITY, f32::NAN] {
+        assert_eq!((exp_f32(x), exp_f64(x.into())), (Err(Refusal::Kernel), Err(Refusal::Kernel)));
+        assert_eq!((pow_f32(1.0, x), pow_f64(1.0, x.into())), (Err(Refusal::Kernel), Err(Refusal::Kernel)));
+    }
+    for x in [f32::INFINITY, f32::NAN, 0.0, -0.0, -1.0] {
+        assert_eq!((ln_f32(x), ln_f64(x.into())), (Err(Refusal::Kernel), Err(Refusal::Kernel)));
+        assert_eq!((pow_f32(x, 1.0), pow_f64(x.into(), 1.0)), (Err(Refusal::Kernel), Err(Refusal::Kernel)));
+    }
+    assert_eq!((pow_f32(1.0, 17.0), pow_f64(1.0, -17.0)), (Err(Refusal::Kernel), Err(Refusal::Kernel)));
+}
+
+/// Document 01's values to prove, 5 to 10 and 12.
+#[test]
+fn steps_answer() {
+    let w = Call::good().w;
+    let first = Step { rating: 1.0, ..Step::default() };
+    let padding = training_step(&w, Step::default()).expect("padding");
+    assert_eq!(padding.state, State { stability: 0.0001, difficulty: 1.0 });
+    assert_eq!(training_step(&w, first).expect("first").state, State { stability: w[0], difficulty: w[4] });
+    let still = Call::with(|x| [7, 13, 17, 19].into_iter().for_each(|i| x.w[i] = 0.0));
+    for (day, branch) in [(0.0, 2.0), (-1.0, 6.0)] {
+        let stepped = training_step(&still.w, Step { day, ..still.step }).expect("a step");
+        assert_eq!((stepped.state, stepped.record[7]), (still.step.state, branch));
+    }
+    let lapse = training_step(&still.w, Step { day: 1.0, rating: 1.0, ..still.step }).expect("a lapse");
+    assert_eq!((lapse.state.stability, lapse.record[7]), (0.0001, 4.0));
+    assert!(training_step(&w, Step { day: 100000.0, ..still.step }).is_ok());
+}
+
+#[test]
+fn a_gradient_gives_the_loss_alone_and_what_is_lent() {
+    let mut x = Call::good();
+    let y = x.clone();
+    let mut gradient = Gradient::default();
+    gradient.slots.copy_from_slice(&y.gw);
+    assert_eq!(gradient.add_prefixes(&y.w, &y.prefixes()), batch_loss(&y.w, &y.prefixes()));
+    assert_eq!(PREFIX_GRAD(&mut x), Ok(()));
+    assert_eq!(gradient.slots, x.gw[..]);
+    assert_eq!(gradient.add_cards(&y.w, &y.cards()), card_loss(&y.w, &y.cards()));
+    assert_eq!(CARD_GRAD(&mut x), Ok(()));
+    assert_eq!(gradient.slots, x.gw[..]);
+}
+
+#[test]
+fn a_review_of_weight_0_gives_nothing() {
+    let x = Call::with(|x| x.weights.fill(0.0));
+    let mut gradient = Gradient::default();
+    assert_eq!(gradient.add_prefixes(&x.w, &x.prefixes()), Ok(0.0));
+    assert_eq!(gradient.add_cards(&x.w, &x.cards()), Ok(0.0));
+    assert_eq!(gradient.slots, [0.0; WEIGHTS]);
+}
+
+#[cfg(feature = "batch_file")]
+mod files {
+    use super::*;
+
+    const OFFSETS: [u32; 7] = [40, 124, 128, 132, 136, 136, 140];
+
+    /// Document 01's example, by words: one card, one row, default weights, length 1, other cells zero.
+    fn example() -> Vec<u32> {
+        let mut words = vec![2, 1, 1];
+        words.extend(OFFSETS);
+        words.extend(Call::good().w.iter().map(|x| x.to_bits()));
+        words.extend([0, 0, 1, 0, 0]);
+        words
+    }
+
+    fn bytes(words: &[u32]) -> Vec<u8> {
+        words.iter().flat_map(|word| word.to_le_bytes()).collect()
+    }
+
+    fn malformed(file: &[u8]) {
+        let mut gw = [2.5; WEIGHTS];
+        assert_eq!(batch_file(file, &mut gw), Err(Refusal::File));
+        assert_eq!(gw, [2.5; WEIGHTS]);
+    }
+
+    #[test]
+    fn the_example_gives_nothing() {
+        let (file, mut gw) = (bytes(&example()), [0.0; WEIGHTS]);
+        assert_eq!(file.len(), 144);
+        assert_eq!(batch_file(&file, &mut gw), Ok(0.0));
+        assert_eq!(gw, [0.0; WEIGHTS]);
+        assert_eq!(batch_file(&file, &mut gw[..20]), Err(Refusal::SlotCount));
+    }
+
+    #[test]
+    fn files_are_refused() {
+        let whole = bytes(&example());
+        malformed(&[]);
+        malformed(&whole[..143]);
+        malformed(&[&whole[..], &[0]].concat());
+        let changes = [(0, 3), (1, 513)].into_iter().chain((3..).zip(OFFSETS.map(|offset| offset + 4)));
+        for (word, value) in changes {
+            let mut words = example();
+            words[word] = value;
+            malformed(&bytes(&words));
+        }
+    }
+}

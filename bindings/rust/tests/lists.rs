@@ -1,0 +1,197 @@
+//! Runs the lists of vectors in `crates/*_vectors/stdin` through the safe functions, so that no argument can stand in
+//! another's place. `tools/*_vectors.py` say what a line holds.
+
+use fsrs6::*;
+
+/// The words of a line, one after another.
+struct Words<'a>(std::str::SplitAsciiWhitespace<'a>);
+
+impl Words<'_> {
+    fn number(&mut self) -> u64 {
+        u64::from_str_radix(self.0.next().expect("a word"), 16).expect("a hexadecimal word")
+    }
+
+    fn numbers(&mut self, n: usize) -> Vec<u64> {
+        (0..n).map(|_| self.number()).collect()
+    }
+
+    fn slice(&mut self) -> Vec<u64> {
+        let n = self.number() as usize;
+        self.numbers(n)
+    }
+
+    fn singles(&mut self) -> Vec<f32> {
+        self.slice().into_iter().map(single).collect()
+    }
+}
+
+fn single(bits: u64) -> f32 {
+    f32::from_bits(bits as u32)
+}
+
+/// Every NaN has one pattern: its payload is nobody's promise.
+fn single_bits(x: f32) -> u64 {
+    if x.is_nan() {
+        0x7fc00000
+    } else {
+        x.to_bits().into()
+    }
+}
+
+fn double_bits(x: f64) -> u64 {
+    if x.is_nan() {
+        0x7ff8000000000000
+    } else {
+        x.to_bits()
+    }
+}
+
+/// The number of a refusal and the bits of the answers, none where there is a refusal.
+type Outcome = (u64, Vec<u64>);
+
+fn outcome<T>(answer: Result<T, Refusal>, bits: impl Fn(T) -> Vec<u64>) -> Outcome {
+    match answer {
+        Ok(x) => (0, bits(x)),
+        Err(refusal) => (refusal.number().into(), vec![]),
+    }
+}
+
+/// Runs a list. `w` and `g` lines set what `try_line` is given: the weights and the slots, as bits.
+fn run(name: &str, try_line: impl Fn(char, &mut Words, &[f32], &[f64]) -> Option<(Outcome, Outcome)>) {
+    let path = format!("{}/../../crates/{name}/stdin", env!("CARGO_MANIFEST_DIR"));
+    let text = std::fs::read_to_string(&path).expect(&path);
+    let (mut w, mut slots, mut tried) = (vec![], vec![], 0);
+    for (i, line) in text.lines().enumerate().filter(|(_, line)| !line.starts_with('#')) {
+        let letter = line.chars().next().expect("a letter");
+        let mut words = Words(line[1..].split_ascii_whitespace());
+        match letter {
+            'w' => w = words.singles(),
+            'g' => slots = words.slice().into_iter().map(f64::from_bits).collect(),
+            _ => {
+                if let Some((is, want)) = try_line(letter, &mut words, &w, &slots) {
+                    assert_eq!(is, want, "{name}:{}", i + 1);
+                    tried += 1;
+                }
+            }
+        }
+    }
+    assert!(tried > 0, "{name}: no line was tried");
+}
+
+#[test]
+fn model_vectors() {
+    run("model_vectors", |letter, words, w, _| {
+        let a = words.numbers(24);
+        let (x, y, z) = (single(a[0]), single(a[1]), single(a[2]));
+        let one = |answer| outcome(answer, |x| vec![single_bits(x)]);
+        let is = match letter {
+            'F' => {
+                let filled = outcome(check_and_fill_parameters(w), |w| w.map(single_bits).to_vec());
+                let want = if a[0] == 0 { a[1..22].to_vec() } else { vec![] };
+                return Some((filled, (a[0], want)));
+            }
+            'C' => one(power_forgetting_curve(w, x, y)),
+            'I' => one(next_interval(w, x, y)),
+            'S' => one(stability_after_success(w, x, y, z, a[3] as u32)),
+            'L' => one(stability_after_failure(w, x, y, z)),
+            'T' => one(stability_short_term(w, x, a[1] as u32)),
+            'E' => one(init_difficulty(w, a[0] as u32)),
+            'M' => one(mean_reversion(w, x, y)),
+            'D' => one(next_difficulty(w, x, a[1] as u32)),
+            'N' => {
+                let state = State { stability: x, difficulty: y };
+                outcome(next_state(w, state, z, a[3] as u32), |q| {
+                    vec![single_bits(q.stability), single_bits(q.difficulty)]
+                })
+            }
+            _ => return None,
+        };
+        let answers = if a[4] == 0 { a[5..5 + is.1.len()].to_vec() } else { vec![] };
+        Some((is, (a[4], answers)))
+    });
+}
+
+/// The record as the list tells it: state, then day to outputs, branch, and the branch's numbers.
+fn record(a: &[u64]) -> Vec<u64> {
+    let (branch, has_numbers) = match (a[20], a[23]) {
+        (2, active) => (3 - active, true),
+        (3, floored) => (4 + floored, true),
+        (4, _) => (6, false),
+        (branch, _) => (branch, false),
+    };
+    let numbers = if has_numbers { &a[21..23] } else { &[0, 0] };
+    [&a[11..13], &a[15..20], &[single_bits(branch as f32)], numbers].concat()
+}
+
+#[test]
+fn step_vectors() {
+    run("step_vectors", |letter, words, w, slots| {
+        let a = words.numbers(34);
+        let state = State { stability: single(a[0]), difficulty: single(a[1]) };
+        let step = Step { state, day: single(a[2]), rating: single(a[3]), row: a[4] as usize };
+        let (is, answers) = match letter {
+            'T' => {
+                let is = outcome(training_step(w, step), |x| {
+                    let state = [x.state.stability, x.state.difficulty];
+                    state.into_iter().chain(x.record).map(single_bits).collect()
+                });
+                (is, [&a[9..11], &record(&a)].concat())
+            }
+            'B' => {
+                let mut gw = slots.to_vec();
+                let after = StateGradient { stability: f64::from_bits(a[5]), difficulty: f64::from_bits(a[6]) };
+                let answer = training_step_backward(w, step, after, f64::from_bits(a[7]), &mut gw);
+                let is = outcome(answer, |x| {
+                    let state = [x.stability, x.difficulty];
+                    state.into_iter().chain(gw.iter().copied()).map(double_bits).collect()
+                });
+                (is, a[9..32].to_vec())
+            }
+            _ => return None,
+        };
+        let answers = if a[8] == 0 { answers } else { vec![] };
+        Some((is, (a[8], answers)))
+    });
+}
+
+/// The digest of the slots, the records and the step gradients.
+fn digest(slots: &[f64], records: &[f32], step_grads: &[f64]) -> u64 {
+    let doubles = |xs: &[f64]| xs.iter().map(|&x| double_bits(x)).collect::<Vec<_>>();
+    let singles = records.iter().map(|&x| single_bits(x)).collect();
+    [doubles(slots), singles, doubles(step_grads)].concat().into_iter().fold(0xcbf29ce484222325, |h, v| {
+        let m = (h ^ v).wrapping_mul(0x100000001b3);
+        m ^ (m >> 32)
+    })
+}
+
+#[test]
+fn loss_vectors() {
+    run("loss_vectors", |letter, words, w, slots| {
+        let (rows, columns) = (words.number() as u32, words.number() as u32);
+        let (days, ratings) = (words.singles(), words.singles());
+        let lengths: Vec<u32> = words.slice().into_iter().map(|n| n as u32).collect();
+        let (target_days, labels, weights) = (words.singles(), words.singles(), words.singles());
+        let (n, first) = (words.number(), words.number());
+        let mut records: Vec<f32> = (0..n).map(|i| single(first.wrapping_add(i))).collect();
+        let (n, first) = (words.number(), words.number());
+        let mut step_grads: Vec<f64> = (0..n).map(|i| f64::from_bits(first.wrapping_add(i))).collect();
+        let [days, ratings, target_days, labels, weights] =
+            [&days, &ratings, &target_days, &labels, &weights].map(|x| &x[..]);
+        let lengths = &lengths[..];
+        let prefixes = Prefixes { rows, columns, days, ratings, lengths, target_days, labels, weights };
+        let cards = Cards { rows, columns, days, ratings, lengths, labels, weights };
+        let mut gw = slots.to_vec();
+        let answer = match letter {
+            '0' => batch_loss_and_grad(w, &prefixes, &mut gw, &mut records),
+            '1' => batch_loss(w, &prefixes),
+            '2' => card_loss_and_grad(w, &cards, &mut gw, &mut records, &mut step_grads),
+            '3' => card_loss(w, &cards),
+            _ => return None,
+        };
+        let is_alone = letter == '1' || letter == '3';
+        let left = digest(if is_alone { &[] } else { &gw }, &records, &step_grads);
+        let is = (answer.map_or_else(|x| x.number().into(), |_| 0), vec![double_bits(answer.unwrap_or(0.0)), left]);
+        let want = (words.number(), words.numbers(2));
+        Some((is, want))
+    });
+}

@@ -1,0 +1,2 @@
+-- What the step's record holds.
+pub mod Numbers

@@ -1,0 +1,610 @@
+/* Calls every function of include/fsrs6.h: with an answer that follows from document 01, and once for each refusal that the
+ * function can give. After a refused call everything that was lent must have the bits that it had. lists.c runs many more
+ * answers. */
+#include "../../include/fsrs6.h"
+#include "check.h"
+
+enum { ROWS = 3, COLUMNS = 2, CELLS = ROWS * COLUMNS, HEADER = 40, FILE_ROOM = 4096 };
+
+/* Everything that a call is lent, in one piece, so that one comparison tells whether anything was written. */
+struct call {
+    float w[FSRS_WEIGHTS];
+    size_t w_len;
+    float stability, difficulty, retrievability, retention, day, rating;
+    uint32_t whole_rating;
+    size_t row;
+    double g_s, g_d, g_r;
+    uint32_t rows, columns, lengths[COLUMNS];
+    float days[CELLS], ratings[CELLS], target_days[COLUMNS], labels[CELLS], weights[CELLS];
+    size_t cells;
+    uint32_t kind;
+    unsigned char file[FILE_ROOM];
+    size_t file_len;
+    /* from here on a call may write */
+    float filled[FSRS_WEIGHTS], answer, answer_difficulty, record[FSRS_RECORD];
+    double gw[FSRS_WEIGHTS];
+    size_t gw_len;
+    float records[FSRS_RECORD * ROWS];
+    size_t records_len;
+    double step_grads[ROWS], loss, grad_s, grad_d;
+};
+
+/* A call that every function accepts, over the default weights; what it may write is not zero. */
+static struct call good(void) {
+    struct call x = {
+        .w_len = FSRS_WEIGHTS,
+        .stability = 5,
+        .difficulty = 6,
+        .retrievability = 0.75f,
+        .retention = 0.9f,
+        .day = 4,
+        .rating = 3,
+        .whole_rating = 3,
+        .row = 1,
+        .g_s = 1,
+        .g_d = -2,
+        .g_r = 0.5,
+        .rows = ROWS,
+        .columns = COLUMNS,
+        .lengths = {ROWS, ROWS - 1},
+        .days = {0, 0, 4, 0, 9, 2},
+        .ratings = {3, 1, 2, 3, 1, 4},
+        .target_days = {8, 1},
+        .labels = {1, 0, 0, 1, 1, 0.5f},
+        .weights = {1, 2, 0.5f, 1, 1, 3},
+        .cells = CELLS,
+        .kind = 2,
+        .answer = 7,
+        .answer_difficulty = 8,
+        .gw_len = FSRS_WEIGHTS,
+        .records_len = FSRS_RECORD * ROWS,
+        .loss = 9,
+        .grad_s = 10,
+        .grad_d = 11,
+    };
+    fsrs_check_and_fill_parameters(&x.answer, 0, x.w);
+    for (int i = 0; i < FSRS_WEIGHTS; i++) {
+        x.filled[i] = (float)i;
+        x.gw[i] = i;
+    }
+    return x;
+}
+
+/* ---- the functions, each on its part of a call */
+
+static uint32_t fill(struct call *x) {
+    return fsrs_check_and_fill_parameters(x->w, x->w_len, x->filled);
+}
+
+static uint32_t curve(struct call *x) {
+    return fsrs_power_forgetting_curve(x->w, x->w_len, x->day, x->stability, &x->answer);
+}
+
+static uint32_t interval(struct call *x) {
+    return fsrs_next_interval(x->w, x->w_len, x->stability, x->retention, &x->answer);
+}
+
+static uint32_t first_difficulty(struct call *x) {
+    return fsrs_init_difficulty(x->w, x->w_len, x->whole_rating, &x->answer);
+}
+
+static uint32_t reversion(struct call *x) {
+    return fsrs_mean_reversion(x->w, x->w_len, x->stability, x->difficulty, &x->answer);
+}
+
+static uint32_t difficulty(struct call *x) {
+    return fsrs_next_difficulty(x->w, x->w_len, x->difficulty, x->whole_rating, &x->answer);
+}
+
+static uint32_t success(struct call *x) {
+    return fsrs_stability_after_success(x->w, x->w_len, x->stability, x->retrievability, x->difficulty, x->whole_rating,
+                                        &x->answer);
+}
+
+static uint32_t failure(struct call *x) {
+    return fsrs_stability_after_failure(x->w, x->w_len, x->stability, x->retrievability, x->difficulty, &x->answer);
+}
+
+static uint32_t short_term(struct call *x) {
+    return fsrs_stability_short_term(x->w, x->w_len, x->stability, x->whole_rating, &x->answer);
+}
+
+static uint32_t state(struct call *x) {
+    return fsrs_next_state(x->w, x->w_len, x->stability, x->difficulty, x->day, x->whole_rating, &x->answer,
+                           &x->answer_difficulty);
+}
+
+static uint32_t step(struct call *x) {
+    return fsrs_training_step(x->w, x->w_len, x->stability, x->difficulty, x->day, x->rating, x->row, &x->answer,
+                              &x->answer_difficulty, x->record);
+}
+
+static uint32_t step_backward(struct call *x) {
+    return fsrs_training_step_backward(x->w, x->w_len, x->stability, x->difficulty, x->day, x->rating, x->row, x->g_s,
+                                       x->g_d, x->g_r, x->gw, x->gw_len, &x->grad_s, &x->grad_d);
+}
+
+static uint32_t batch(struct call *x) {
+    return fsrs_batch_loss(x->w, x->w_len, x->days, x->cells, x->ratings, x->cells, x->rows, x->columns, x->lengths,
+                           COLUMNS, x->target_days, COLUMNS, x->labels, COLUMNS, x->weights, COLUMNS, &x->loss);
+}
+
+static uint32_t batch_grad(struct call *x) {
+    return fsrs_batch_loss_and_grad(x->w, x->w_len, x->days, x->cells, x->ratings, x->cells, x->rows, x->columns,
+                                    x->lengths, COLUMNS, x->target_days, COLUMNS, x->labels, COLUMNS, x->weights,
+                                    COLUMNS, x->gw, x->gw_len, x->records, x->records_len, &x->loss);
+}
+
+static uint32_t card(struct call *x) {
+    return fsrs_card_loss(x->w, x->w_len, x->days, x->cells, x->ratings, x->cells, x->rows, x->columns, x->lengths,
+                          COLUMNS, x->labels, x->cells, x->weights, x->cells, &x->loss);
+}
+
+static uint32_t card_grad(struct call *x) {
+    return fsrs_card_loss_and_grad(x->w, x->w_len, x->days, x->cells, x->ratings, x->cells, x->rows, x->columns,
+                                   x->lengths, COLUMNS, x->labels, x->cells, x->weights, x->cells, x->gw, x->gw_len,
+                                   x->records, x->records_len, x->step_grads, ROWS, &x->loss);
+}
+
+#ifndef NO_BATCH_FILE
+static uint32_t file(struct call *x) {
+    return fsrs_batch_file(x->file, x->file_len, x->gw, x->gw_len, &x->loss);
+}
+#endif
+
+#define BIT(N) (1u << (N))
+
+enum {
+    BOX = BIT(FSRS_WEIGHT_COUNT) | BIT(FSRS_WEIGHT_BOX),
+    FORMULA = BOX | BIT(FSRS_SCALAR),
+    STEP = FORMULA | BIT(FSRS_RATING) | BIT(FSRS_DAY),
+    CARD = BOX | BIT(FSRS_SIZES) | BIT(FSRS_RATING) | BIT(FSRS_DAY) | BIT(FSRS_REVIEW),
+    PREFIX = CARD | BIT(FSRS_EMPTY_PREFIX),
+    SLOTS = BIT(FSRS_SLOT_COUNT),
+    LENT = SLOTS | BIT(FSRS_ROOM),
+    /* a file always has 21 weights, whole sections and its own room; its sizes are tried below */
+    CARD_FILE = (CARD | SLOTS) & ~(BIT(FSRS_WEIGHT_COUNT) | BIT(FSRS_SIZES))
+};
+
+struct function {
+    const char *name;
+    uint32_t (*call)(struct call *);
+    uint32_t refusals;
+};
+
+static const struct function functions[] = {
+    {"check_and_fill_parameters", fill, BIT(FSRS_FILLING_COUNT) | BIT(FSRS_WEIGHT_BOX)},
+    {"power_forgetting_curve", curve, FORMULA},
+    {"next_interval", interval, FORMULA},
+    {"init_difficulty", first_difficulty, FORMULA},
+    {"mean_reversion", reversion, FORMULA},
+    {"next_difficulty", difficulty, FORMULA},
+    {"stability_after_success", success, FORMULA},
+    {"stability_after_failure", failure, FORMULA},
+    {"stability_short_term", short_term, FORMULA},
+    {"next_state", state, FORMULA},
+    {"training_step", step, STEP},
+    {"training_step_backward", step_backward, STEP | SLOTS},
+    {"batch_loss", batch, PREFIX},
+    {"batch_loss_and_grad", batch_grad, PREFIX | LENT},
+    {"card_loss", card, CARD},
+    {"card_loss_and_grad", card_grad, CARD | LENT},
+#ifndef NO_BATCH_FILE
+    {"batch_file", file, CARD_FILE},
+#endif
+};
+
+/* ---- batch files */
+
+static unsigned char *put_word(unsigned char *at, uint32_t word) {
+    for (int i = 0; i < 4; i++) {
+        at[i] = (unsigned char)(word >> 8 * i);
+    }
+    return at + 4;
+}
+
+static unsigned char *put_words(unsigned char *at, const void *words, size_t n) {
+    for (size_t i = 0; i < n; i++) {
+        uint32_t word;
+        memcpy(&word, (const unsigned char *)words + 4 * i, 4);
+        at = put_word(at, word);
+    }
+    return at;
+}
+
+/* Document 01's file: ten words, then the sections with no gap, each at the offset that the header gives. A call whose sizes
+ * are over the limit has no tables to write. */
+static void put_file(struct call *x) {
+    if (x->rows > ROWS || x->columns > COLUMNS) {
+        return;
+    }
+    size_t cells = (size_t)x->rows * x->columns, scored = x->kind == 1 ? x->columns : cells;
+    const struct {
+        const void *words;
+        size_t n;
+    } sections[] = {
+        {x->w, FSRS_WEIGHTS},
+        {x->days, cells},
+        {x->ratings, cells},
+        {x->lengths, x->columns},
+        {x->target_days, x->kind == 1 ? x->columns : 0},
+        {x->labels, scored},
+        {x->weights, scored},
+    };
+    unsigned char *header = put_word(put_word(put_word(x->file, x->kind), x->rows), x->columns);
+    unsigned char *at = x->file + HEADER;
+    for (size_t i = 0; i < sizeof sections / sizeof *sections; i++) {
+        header = put_word(header, (uint32_t)(at - x->file));
+        at = put_words(at, sections[i].words, sections[i].n);
+    }
+    x->file_len = (size_t)(at - x->file);
+}
+
+/* ---- refusals */
+
+static void expect_refused(const char *name, uint32_t (*call)(struct call *), struct call *x, uint32_t number) {
+    static struct call before;
+    memcpy(&before, x, sizeof before);
+    uint32_t is = call(x);
+    expect(is == number, "%s: %" PRIu32 ", not refusal %" PRIu32, name, is, number);
+    expect(memcmp(&before, x, sizeof before) == 0, "%s: refused by %" PRIu32 ", and something was written", name, number);
+}
+
+static void few_weights(struct call *x) {
+    x->w_len = FSRS_WEIGHTS - 1;
+}
+
+static void weight_beyond(struct call *x) {
+    x->w[20] = 1.5f;
+}
+
+static void weight_none(struct call *x) {
+    x->w[0] = NAN;
+}
+
+static void rows_over(struct call *x) {
+    x->rows = FSRS_MAX_ROWS + 1;
+}
+
+static void columns_over(struct call *x) {
+    x->columns = FSRS_MAX_COLUMNS + 1;
+}
+
+static void cells_short(struct call *x) {
+    x->cells = CELLS - 1;
+}
+
+static void records_short(struct call *x) {
+    x->records_len = FSRS_RECORD * ROWS - 1;
+}
+
+static void slots_short(struct call *x) {
+    x->gw_len = FSRS_WEIGHTS - 1;
+}
+
+static void rating_beyond(struct call *x) {
+    x->rating = x->ratings[0] = 5;
+}
+
+static void day_beyond(struct call *x) {
+    x->day = x->days[COLUMNS] = 100000.0078125f;
+}
+
+static void label_beyond(struct call *x) {
+    x->labels[0] = x->labels[COLUMNS] = -0.5f;
+}
+
+static void review_none(struct call *x) {
+    x->weights[0] = x->weights[COLUMNS] = NAN;
+}
+
+static void prefix_empty(struct call *x) {
+    x->lengths[1] = 0;
+}
+
+static void not_finite(struct call *x) {
+    x->stability = x->difficulty = INFINITY;
+    x->whole_rating = 5;
+}
+
+static const struct {
+    uint32_t number;
+    void (*make)(struct call *);
+} faults[] = {
+    {FSRS_WEIGHT_COUNT, few_weights},
+    {FSRS_FILLING_COUNT, few_weights},
+    {FSRS_WEIGHT_BOX, weight_beyond},
+    {FSRS_WEIGHT_BOX, weight_none},
+    {FSRS_SIZES, rows_over},
+    {FSRS_SIZES, columns_over},
+    {FSRS_SIZES, cells_short},
+    {FSRS_ROOM, records_short},
+    {FSRS_SLOT_COUNT, slots_short},
+    {FSRS_RATING, rating_beyond},
+    {FSRS_DAY, day_beyond},
+    {FSRS_REVIEW, label_beyond},
+    {FSRS_REVIEW, review_none},
+    {FSRS_EMPTY_PREFIX, prefix_empty},
+    {FSRS_SCALAR, not_finite},
+};
+
+static void try_faults(const struct function *f) {
+    uint32_t seen = 0;
+    for (size_t i = 0; i < sizeof faults / sizeof *faults; i++) {
+        if (!(f->refusals & BIT(faults[i].number))) {
+            continue;
+        }
+        struct call x = good();
+        faults[i].make(&x);
+        put_file(&x);
+        expect_refused(f->name, f->call, &x, faults[i].number);
+        seen |= BIT(faults[i].number);
+    }
+    expect(seen == f->refusals, "%s: not every refusal was tried", f->name);
+}
+
+static void refusals(void) {
+    for (size_t i = 0; i < sizeof functions / sizeof *functions; i++) {
+        struct call x = good();
+        put_file(&x);
+        expect(functions[i].call(&x) == FSRS_ACCEPTED, "%s: refused", functions[i].name);
+        try_faults(&functions[i]);
+    }
+}
+
+/* ---- answers */
+
+static void kernels(void) {
+    expect_single("exp_f32(-0)", fsrs_exp_f32(-0.0f), 1);
+    expect_double("exp_f64(-0)", fsrs_exp_f64(-0.0), 1);
+    /* docs/KERNELS.md works these two out by hand */
+    expect_single("exp_f32(1)", fsrs_exp_f32(1), single_of(0x402df854));
+    expect_double("exp_f64(1)", fsrs_exp_f64(1), double_of(0x4005bf0a8b145769));
+    expect_single("exp_f32(89)", fsrs_exp_f32(89), INFINITY);
+    expect_single("exp_f32(-89)", fsrs_exp_f32(-89), 0);
+    expect_double("exp_f64(710)", fsrs_exp_f64(710), INFINITY);
+    expect_double("exp_f64(-710)", fsrs_exp_f64(-710), 0);
+    expect_single("ln_f32(1)", fsrs_ln_f32(1), 0);
+    expect_double("ln_f64(1)", fsrs_ln_f64(1), 0);
+    expect_single("pow_f32(1, 16)", fsrs_pow_f32(1, 16), 1);
+    expect_double("pow_f64(1, -16)", fsrs_pow_f64(1, -16), 1);
+    expect_single("pow_f32(7, -0)", fsrs_pow_f32(7, -0.0f), 1);
+    expect_double("pow_f64(7, 0)", fsrs_pow_f64(7, 0), 1);
+    expect_single("fma_f32", fsrs_fma_f32(1 + 0x1p-12f, 1 + 0x1p-12f, -1), 0x1p-11f + 0x1p-24f);
+    expect_double("fma_f64", fsrs_fma_f64(1 + 0x1p-27, 1 + 0x1p-27, -1), 0x1p-26 + 0x1p-54);
+    expect_single("round_f32(2.5)", fsrs_round_f32(2.5f), 3);
+    expect_single("round_f32, below 0.5", fsrs_round_f32(0x1.fffffep-2f), 0);
+    expect_double("round_f64(-2.5)", fsrs_round_f64(-2.5), -3);
+    expect_double("round_f64, below 0.5", fsrs_round_f64(0x1.fffffffffffffp-2), 0);
+}
+
+static void kernels_refused(void) {
+    const float beyond[] = {INFINITY, -INFINITY, NAN, 0, -0.0f, -1};
+    for (size_t i = 0; i < sizeof beyond / sizeof *beyond; i++) {
+        float x = beyond[i];
+        if (i < 3) {
+            expect_single("exp_f32 refused", fsrs_exp_f32(x), NAN);
+            expect_double("exp_f64 refused", fsrs_exp_f64(x), NAN);
+            expect_single("pow_f32 refused by y", fsrs_pow_f32(1, x), NAN);
+            expect_double("pow_f64 refused by y", fsrs_pow_f64(1, x), NAN);
+        }
+        expect_single("ln_f32 refused", fsrs_ln_f32(x), NAN);
+        expect_double("ln_f64 refused", fsrs_ln_f64(x), NAN);
+        expect_single("pow_f32 refused by x", fsrs_pow_f32(x, 1), NAN);
+        expect_double("pow_f64 refused by x", fsrs_pow_f64(x, 1), NAN);
+    }
+    expect_single("pow_f32(1, 17)", fsrs_pow_f32(1, 17), NAN);
+    expect_double("pow_f64(1, -17)", fsrs_pow_f64(1, -17), NAN);
+}
+
+static void expect_answer(const char *name, uint32_t (*call)(struct call *), struct call x, float want) {
+    expect(call(&x) == FSRS_ACCEPTED, "%s: refused", name);
+    expect_single(name, x.answer, want);
+}
+
+/* Weights and arguments at which the text leaves nothing but 1, 0 or what was given. */
+static void formulas(void) {
+    struct call x = good();
+    expect(fill(&x) == FSRS_ACCEPTED && memcmp(x.filled, x.w, sizeof x.w) == 0, "21 weights were not left as they are");
+    x.day = 0;
+    x.whole_rating = 1;
+    expect_answer("the curve on day 0", curve, x, 1);
+    expect_answer("a first difficulty, rating 1", first_difficulty, x, x.w[4]);
+    x = good();
+    x.retrievability = 1;
+    expect_answer("a success at retrievability 1", success, x, x.stability);
+    x.stability = 36500;
+    x.retention = 0.0001f;
+    expect_answer("the longest interval", interval, x, 36500);
+    x = good();
+    x.w[7] = 0;
+    expect_answer("mean reversion by nothing", reversion, x, x.difficulty);
+    expect_answer("a difficulty after rating 3", difficulty, x, x.difficulty);
+    x.w[13] = 0;
+    expect_answer("a lapse without weight 13", failure, x, 0.0001f);
+    x.w[17] = x.w[19] = 0;
+    x.day = 0;
+    expect_answer("the same day without weights 17 and 19", short_term, x, x.stability);
+    expect_answer("the next state on the same day", state, x, x.stability);
+    state(&x);
+    expect_single("its difficulty", x.answer_difficulty, x.difficulty);
+}
+
+static void expect_step(const char *name, struct call x, float s, float d, float branch) {
+    expect(step(&x) == FSRS_ACCEPTED, "%s: refused", name);
+    expect_single(name, x.answer, s);
+    expect_single(name, x.answer_difficulty, d);
+    expect_single(name, x.record[7], branch);
+    const float given[] = {x.stability, x.difficulty};
+    expect(memcmp(x.record, given, sizeof given) == 0, "%s: the record has not the state as given", name);
+}
+
+/* Document 01's values to prove, 5 to 10 and 12. */
+static void steps(void) {
+    struct call first = good();
+    first.stability = first.difficulty = 0;
+    first.row = 0;
+    first.rating = 0;
+    expect_step("padding from (0, 0)", first, 0.0001f, 1, 0);
+    first.rating = 1;
+    expect_step("first rating 1", first, first.w[0], first.w[4], 1);
+    struct call x = good();
+    x.w[7] = 0;
+    x.w[13] = x.w[17] = x.w[19] = 0;
+    x.day = 0;
+    expect_step("same day without weights 17 and 19", x, x.stability, x.difficulty, 2);
+    x.day = -1;
+    expect_step("day -1, rating 3", x, x.stability, x.difficulty, 6);
+    x.day = 100000;
+    expect(step(&x) == FSRS_ACCEPTED, "day 100000 was refused");
+    x.day = 1;
+    x.rating = 1;
+    step(&x);
+    expect_single("a lapse without weight 13", x.answer, 0.0001f);
+    expect_single("its branch", x.record[7], 4);
+}
+
+/* After a first review rated 1 the stability is weight 0. */
+static void steps_backward(void) {
+    struct call x = good();
+    x.stability = x.difficulty = 0;
+    x.row = 0;
+    x.rating = 1;
+    x.g_d = x.g_r = 0;
+    x.gw[0] = 2;
+    expect(step_backward(&x) == FSRS_ACCEPTED, "a first step backward was refused");
+    expect_double("slot 0 of a first step", x.gw[0], 2 + x.g_s);
+    for (int i = 1; i < FSRS_WEIGHTS; i++) {
+        expect_double("a slot that a first step leaves", x.gw[i], i);
+    }
+}
+
+static void expect_same_loss(uint32_t (*alone)(struct call *), uint32_t (*with_grad)(struct call *)) {
+    struct call x = good(), y = good();
+    expect(alone(&x) == FSRS_ACCEPTED && with_grad(&y) == FSRS_ACCEPTED, "a loss was refused");
+    expect_double("the loss with its gradient", y.loss, x.loss);
+    expect(x.loss > 0 && memcmp(x.gw, y.gw, sizeof x.gw) != 0, "nothing was worked out");
+}
+
+static void expect_nothing(const char *name, uint32_t (*call)(struct call *), struct call x) {
+    static const double zeros[FSRS_WEIGHTS];
+    memset(x.gw, 0, sizeof x.gw);
+    expect(call(&x) == FSRS_ACCEPTED, "%s: refused", name);
+    expect_double(name, x.loss, 0);
+    expect(memcmp(x.gw, zeros, sizeof zeros) == 0, "%s: the gradient is not 0", name);
+}
+
+/* One card, one row, length 1, default weights, other cells zero. */
+static struct call one_card(void) {
+    struct call x = good();
+    x.rows = x.columns = x.lengths[0] = 1;
+    x.days[0] = x.ratings[0] = x.labels[0] = x.weights[0] = 0;
+    put_file(&x);
+    return x;
+}
+
+static void losses(void) {
+    expect_same_loss(batch, batch_grad);
+    expect_same_loss(card, card_grad);
+    expect_nothing("one card", card_grad, one_card());
+    struct call x = good();
+    memset(x.weights, 0, sizeof x.weights);
+    expect_nothing("prefixes of weight 0", batch_grad, x);
+    expect_nothing("cards of weight 0", card_grad, x);
+    x.days[COLUMNS] = 100000;
+    expect_nothing("day 100000", batch_grad, x);
+}
+
+/* ---- a file's answers, and what is malformed */
+
+#ifndef NO_BATCH_FILE
+static void expect_file(uint32_t kind, uint32_t (*with_grad)(struct call *)) {
+    struct call x = good(), y = good();
+    x.kind = kind;
+    put_file(&x);
+    expect(file(&x) == FSRS_ACCEPTED && with_grad(&y) == FSRS_ACCEPTED, "a file of kind %" PRIu32 ": refused", kind);
+    expect_double("the loss of a file", x.loss, y.loss);
+    expect(memcmp(x.gw, y.gw, sizeof x.gw) == 0, "a file of kind %" PRIu32 ": another gradient", kind);
+}
+
+/* The words from the header's start that are changed, one at a time. */
+static void expect_malformed(size_t word, uint32_t value) {
+    struct call x = one_card();
+    put_word(x.file + 4 * word, value);
+    expect_refused("a malformed file", file, &x, FSRS_FILE);
+}
+
+static void expect_length(size_t length) {
+    struct call x = one_card();
+    x.file_len = length;
+    expect_refused("a file of another length", file, &x, FSRS_FILE);
+}
+
+static void files(void) {
+    static const uint32_t offsets[] = {40, 124, 128, 132, 136, 136, 140};
+    struct call x = one_card(), wanted = x;
+    for (size_t i = 0; i < 7; i++) {
+        put_word(wanted.file + 12 + 4 * i, offsets[i]);
+        expect_malformed(3 + i, offsets[i] + 4);
+        expect_malformed(3 + i, offsets[i] - 4);
+    }
+    expect(x.file_len == 144 && memcmp(wanted.file, x.file, 144) == 0, "this is not document 01's example");
+    expect_nothing("the example", file, x);
+    expect_file(1, batch_grad);
+    expect_file(2, card_grad);
+    expect_length(143);
+    expect_length(145);
+    expect_length(HEADER - 1);
+    expect_length(0);
+    expect_malformed(0, 0);
+    expect_malformed(0, 3);
+    expect_malformed(1, 513);
+    expect_malformed(1, 2);
+    expect_malformed(2, 2);
+    expect_malformed(2, UINT32_MAX);
+}
+
+/* Files that are well formed, and refused by their loss. */
+static void files_refused(void) {
+    struct call x = good();
+    x.kind = 1;
+    x.lengths[1] = 0;
+    put_file(&x);
+    expect_refused("a file with an empty prefix", file, &x, FSRS_EMPTY_PREFIX);
+    /* no rows, so that nothing but the lengths grows with the columns */
+    x = one_card();
+    x.rows = 0;
+    put_file(&x);
+    x.file_len += 4 * FSRS_MAX_COLUMNS;
+    put_word(x.file + 8, FSRS_MAX_COLUMNS + 1);
+    for (size_t i = 7; i < 10; i++) {
+        put_word(x.file + 4 * i, (uint32_t)x.file_len);
+    }
+    expect_refused("a file of 513 columns", file, &x, FSRS_SIZES);
+    /* 512 rows are the file's limit, whatever the columns */
+    x.file_len = HEADER + 4 * FSRS_WEIGHTS;
+    put_word(x.file + 4, FSRS_FILE_ROWS + 1);
+    put_word(x.file + 8, 0);
+    for (size_t i = 4; i < 10; i++) {
+        put_word(x.file + 4 * i, (uint32_t)x.file_len);
+    }
+    expect_refused("a file of 513 rows", file, &x, FSRS_FILE);
+    put_word(x.file + 4, FSRS_FILE_ROWS);
+    expect_nothing("a file of 512 rows and no columns", file, x);
+}
+#endif
+
+int main(void) {
+    refusals();
+    kernels();
+    kernels_refused();
+    formulas();
+    steps();
+    steps_backward();
+    losses();
+#ifndef NO_BATCH_FILE
+    files();
+    files_refused();
+#endif
+    return finish();
+}
