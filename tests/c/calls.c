@@ -146,11 +146,9 @@ static uint32_t card_grad(struct call *x) {
                                    x->records, x->records_len, x->step_grads, ROWS, &x->loss);
 }
 
-#ifndef NO_BATCH_FILE
 static uint32_t file(struct call *x) {
     return fsrs_batch_file(x->file, x->file_len, x->gw, x->gw_len, &x->loss);
 }
-#endif
 
 #define BIT(N) (1u << (N))
 
@@ -189,9 +187,7 @@ static const struct function functions[] = {
     {"batch_loss_and_grad", batch_grad, PREFIX | LENT},
     {"card_loss", card, CARD},
     {"card_loss_and_grad", card_grad, CARD | LENT},
-#ifndef NO_BATCH_FILE
     {"batch_file", file, CARD_FILE},
-#endif
 };
 
 /* ---- batch files */
@@ -517,7 +513,6 @@ static void losses(void) {
 
 /* ---- a file's answers, and what is malformed */
 
-#ifndef NO_BATCH_FILE
 static void expect_file(uint32_t kind, uint32_t (*with_grad)(struct call *)) {
     struct call x = good(), y = good();
     x.kind = kind;
@@ -592,7 +587,6 @@ static void files_refused(void) {
     put_word(x.file + 4, FSRS_FILE_ROWS);
     expect_nothing("a file of 512 rows and no columns", file, x);
 }
-#endif
 
 int main(void) {
     refusals();
@@ -602,9 +596,7 @@ int main(void) {
     steps();
     steps_backward();
     losses();
-#ifndef NO_BATCH_FILE
     files();
     files_refused();
-#endif
     return finish();
 }

@@ -178,7 +178,6 @@ pub fn card_loss_and_grad(
 /// let mut gw = [0.0; 21];
 /// assert_eq!(batch_file(b"no batch", &mut gw), Err(Refusal::File));
 /// ```
-#[cfg(feature = "batch_file")]
 pub fn batch_file(file: &[u8], gw: &mut [f64]) -> Result<f64, Refusal> {
     raw::batch_file(file, gw)
 }

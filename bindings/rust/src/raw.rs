@@ -178,7 +178,6 @@ mod c {
             step_grads_len: usize,
             loss: *mut f64,
         ) -> u32;
-        #[cfg(feature = "batch_file")]
         pub fn fsrs_batch_file(file: *const u8, file_len: usize, gw: *mut f64, gw_len: usize, loss: *mut f64) -> u32;
     }
 }
@@ -343,7 +342,6 @@ losses! {
         x: Cards, [labels, weights], [gw: f64, records: f32, step_grads: f64]);
 }
 
-#[cfg(feature = "batch_file")]
 pub fn batch_file(file: &[u8], gw: &mut [f64]) -> Result<f64, Refusal> {
     let mut loss = 0.0;
     // SAFETY: file and gw are slices with their own lengths, gw by &mut; loss is this function's.

@@ -258,7 +258,6 @@ fn a_review_of_weight_0_gives_nothing() {
     assert_eq!(gradient.slots, [0.0; WEIGHTS]);
 }
 
-#[cfg(feature = "batch_file")]
 mod files {
     use super::*;
 
