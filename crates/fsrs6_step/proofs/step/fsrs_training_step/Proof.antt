@@ -1,4 +1,3 @@
-use mathlib.Core.Path.{ap}
 use borrow.Author.Needs.{needs}
 use Rattle.fsrs6_step.proofs.step.fsrs_training_step.Statement.{statement}
 use Rattle.fsrs6_step.proofs.step.fsrs_training_step.Tie as tie
@@ -18,7 +17,7 @@ put-step-requires c κs = search needs
 returns : tie.Need-returns
 returns c =
     let e = c .before .before .before .before .before .before .before .before .training-step .ensures in
-    (ap (λ a. a .refusal) e, rw (c .before .before .before .before .put-f32 .ensures, e), rw (c .before .before .put-f322 .ensures, e), rw (c .put-step .ensures, e))
+    (λ i. e i .refusal, rw (c .before .before .before .before .put-f32 .ensures, e), rw (c .before .before .put-f322 .ensures, e), rw (c .put-step .ensures, e))
 
 pub fsrs-training-step-spec : {M : Type 1} → statement M
 fsrs-training-step-spec =

@@ -1,4 +1,3 @@
-use mathlib.Core.Path.{ap}
 use borrow.Author.Needs.{needs}
 use Rattle.fsrs6_step.proofs.step_backward.fsrs_training_step_backward.Statement.{
   statement,
@@ -20,7 +19,7 @@ same-length c = search needs
 returns : tie.Need-returns
 returns c =
     let e = c .before .before .before .before .before .before .before .training-step-backward .ensures in
-    (ap (λ a. a .refusal) (e .0), e .1, rw (c .before .before .put-f64 .ensures, e .0), rw (c .put-f642 .ensures, e .0))
+    (λ i. e .0 i .refusal, e .1, rw (c .before .before .put-f64 .ensures, e .0), rw (c .put-f642 .ensures, e .0))
 
 pub fsrs-training-step-backward-spec : {M : Type 1} → statement M
 fsrs-training-step-backward-spec =
