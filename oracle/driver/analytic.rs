@@ -1,0 +1,325 @@
+// The Rust's training step and losses, as their text stands, with document 01's added rules around them.
+//
+// The text becomes part of this file because the caches and the step gradients, which the port lends, are private there.
+// run makes it: exp, ln and powf are ours (but not with --stock).
+#![allow(dead_code, unused_imports)]
+use crate::cases::{record_cell, Loss, Outcome, Part, Reverse, Step, FIELDS};
+use crate::kernels::Kernels;
+use crate::rules;
+use crate::tally::Tally;
+
+include!(env!("ANALYTIC"));
+
+/// Days of -0.0 are +0.0 in every curve.
+fn plain_day(day: f32) -> f32 {
+    if day == 0.0 { 0.0 } else { day }
+}
+
+fn branch(c: &StepCache) -> (u8, f32, f32) {
+    if c.padding {
+        (0, 0.0, 0.0)
+    } else if c.init_selected {
+        (1, 0.0, 0.0)
+    } else if c.use_short {
+        (if c.short_raw_active { 2 } else { 3 }, c.short_raw, c.short_value)
+    } else if c.use_failure {
+        (if c.failure_used_floor { 5 } else { 4 }, c.failure_raw, c.failure_floor)
+    } else {
+        (6, 0.0, 0.0)
+    }
+}
+
+// The ten numbers of a record. The day is the one given, with its sign, and +0.0 where it goes unread
+// (docs/DIFFERENCES.md, 6).
+fn fields(c: &StepCache, given_day: f32) -> [f32; FIELDS] {
+    let (number, raw, value) = branch(c);
+    let day = if number < 2 { 0.0 } else { given_day };
+    let number = number as f32;
+    [c.state_s, c.state_d, day, c.rating, c.retrievability, c.pre_clamp_s, c.mean_pre_clamp_d, number, raw, value]
+}
+
+// ---- the losses
+
+struct Tables {
+    days: Vec<f32>,
+    targets: Vec<f32>,
+}
+
+fn plain_tables(c: &Loss) -> Tables {
+    let plain = |xs: &[f32]| xs.iter().map(|&x| plain_day(x)).collect();
+    Tables { days: plain(&c.days), targets: plain(&c.targets) }
+}
+
+// The loss of one column, by the text's private function.
+fn column_loss(
+    p: &RuntimeParams<'_>,
+    c: &Loss,
+    tables: &Tables,
+    column: usize,
+    gw: Option<&mut [f64]>,
+    caches: &mut Vec<StepCache>,
+    g_r_losses: &mut Vec<f64>,
+) -> f64 {
+    let (n, batch) = (c.cut(column), c.columns as usize);
+    let (days, ratings) = (&tables.days, &c.ratings);
+    if c.is_card {
+        card_column_loss_and_grad(
+            p, days, ratings, n, batch, column, &c.labels, &c.weights, gw, caches, g_r_losses,
+        )
+    } else {
+        let (day, label, weight) = (tables.targets[column], c.labels[column], c.weights[column]);
+        prefix_loss_and_grad(p, days, ratings, n, batch, column, day, label, weight, gw, caches)
+    }
+}
+
+fn keep_column(c: &Loss, column: usize, caches: &[StepCache], g_r_losses: &[f64], lent: &mut [Part; 2]) {
+    let room = lent[0].bits.len();
+    for (row, cache) in caches.iter().enumerate() {
+        for (f, x) in fields(cache, c.days[c.cell(row, column)]).into_iter().enumerate() {
+            lent[0].put(record_cell(room, f, row), x.to_bits() as u64);
+        }
+    }
+    for (row, x) in g_r_losses.iter().enumerate() {
+        lent[1].put(row, x.to_bits());
+    }
+}
+
+// Column by column, so that the caches and step gradients of each can be kept.
+fn by_columns(c: &Loss, tables: &Tables) -> (f64, Vec<f64>, [Part; 2]) {
+    let p = RuntimeParams::new(&c.w);
+    let mut slots = c.slots.clone();
+    let mut loss = 0.0;
+    let records = Part::of("records", false, c.lent_records().iter().map(|&x| x as u64).collect()).untouched();
+    let step_grads = Part::of("step gradients", true, c.lent_step_grads()).untouched();
+    let mut lent = [records, step_grads];
+    let (mut caches, mut g_r_losses) = (Vec::new(), Vec::new());
+    for column in 0..c.columns as usize {
+        let gw = if c.with_grad { Some(&mut slots[..]) } else { None };
+        loss += column_loss(&p, c, tables, column, gw, &mut caches, &mut g_r_losses);
+        keep_column(c, column, &caches, &g_r_losses, &mut lent);
+    }
+    (loss, slots, lent)
+}
+
+// The loss and the slots by the text's own entry; it has none for a card's loss alone.
+fn by_entry(c: &Loss, tables: &Tables) -> Option<(f64, Vec<f64>)> {
+    let lengths: Vec<usize> = c.lengths.iter().map(|&n| n as usize).collect();
+    let (w, days, ratings) = (&c.w, &tables.days, &c.ratings);
+    let (rows, columns) = (c.rows as usize, c.columns as usize);
+    let mut gw = c.slots.clone();
+    let loss = match (c.is_card, c.with_grad) {
+        (false, true) => batch_loss_and_grad(
+            w, days, ratings, rows, columns, &lengths, &tables.targets, &c.labels, &c.weights, &mut gw,
+        ),
+        (false, false) => {
+            batch_loss(w, days, ratings, rows, columns, &lengths, &tables.targets, &c.labels, &c.weights)
+        }
+        (true, true) => {
+            card_loss_and_grad(w, days, ratings, rows, columns, &lengths, &c.labels, &c.weights, &mut gw)
+        }
+        (true, false) => return None,
+    };
+    Some((loss, gw))
+}
+
+fn same(a: f64, b: f64) -> bool {
+    a.to_bits() == b.to_bits() || (a.is_nan() && b.is_nan())
+}
+
+/// What an accepted call gives.
+pub fn loss_outcome(c: &Loss) -> Outcome {
+    let tables = plain_tables(c);
+    let (loss, slots, [records, step_grads]) = by_columns(c, &tables);
+    if let Some((l, gw)) = by_entry(c, &tables) {
+        assert!(same(l, loss) && gw.iter().zip(&slots).all(|(&a, &b)| same(a, b)), "the entry and its columns");
+    }
+    let mut parts = vec![Part::doubles("loss", [loss])];
+    if c.with_grad {
+        parts.push(Part::doubles("slots", slots));
+        parts.push(records);
+        if c.is_card {
+            parts.push(step_grads);
+        }
+    }
+    Outcome { refusal: 0, parts }
+}
+
+// ---- single steps
+
+// An unread day counts as +0.0.
+fn stepped<'a>(p: &RuntimeParams<'a>, c: &Step) -> (State, StepCache) {
+    let day = if rules::is_day_read(c) { plain_day(c.day) } else { 0.0 };
+    step_forward(p, State { s: c.s, d: c.d }, day, c.rating, c.row)
+}
+
+pub fn step_outcome(c: &Step, tally: &mut Tally) -> Outcome {
+    let p = RuntimeParams::new(&c.w);
+    let (next, cache) = stepped(&p, c);
+    note_step(&cache, c.day, c.row, tally);
+    Outcome {
+        refusal: 0,
+        parts: vec![Part::singles("state", [next.s, next.d]), Part::singles("record", fields(&cache, c.day))],
+    }
+}
+
+pub fn reverse_outcome(c: &Reverse, tally: &mut Tally) -> Outcome {
+    let p = RuntimeParams::new(&c.step.w);
+    let (_, cache) = stepped(&p, &c.step);
+    note_step(&cache, c.step.day, c.step.row, tally);
+    let mut gw = c.slots.clone();
+    let (s, d) = step_backward(&p, &cache, c.g[0], c.g[1], c.g[2], &mut gw);
+    Outcome { refusal: 0, parts: vec![Part::doubles("gradients", [s, d]), Part::doubles("slots", gw)] }
+}
+
+// ---- which branches were met
+
+fn side(x: f32, low: f32, high: f32) -> &'static str {
+    if x < low {
+        "below its low end"
+    } else if x == low {
+        "at its low end"
+    } else if x < high {
+        "inside"
+    } else if x == high {
+        "at its high end"
+    } else {
+        "above its high end"
+    }
+}
+
+fn note_step(c: &StepCache, day: f32, row: usize, tally: &mut Tally) {
+    let rating = c.rating as u32;
+    let name = match branch(c).0 {
+        0 if row == 0 => "step: padding, row 0".to_string(),
+        0 => "step: padding, later row".to_string(),
+        1 => format!("step: first, rating {rating}"),
+        2 if c.short_raw == 1.0 => format!("step: same day, rating {rating}, raw multiplier exactly 1"),
+        2 => format!("step: same day, rating {rating}, raw multiplier"),
+        3 => format!("step: same day, rating {rating}, held at 1"),
+        4 if c.failure_raw == c.failure_floor => "step: lapse, raw value equal to the floor".to_string(),
+        4 => "step: lapse, raw value".to_string(),
+        5 => "step: lapse, floor".to_string(),
+        _ => format!("step: success, rating {rating}"),
+    };
+    tally.branch(&name);
+    if branch(c).0 > 1 {
+        note_day(day, tally);
+    }
+    if branch(c).0 > 0 {
+        tally.branch(&format!("stability before its clamp: {}", side(c.pre_clamp_s, S_MIN, S_MAX)));
+        tally.branch(&format!("difficulty before its clamp: {}", side(c.mean_pre_clamp_d, D_MIN, D_MAX)));
+    }
+    tally.branch(&format!("state as given, stability: {}", side(c.state_s, S_MIN, S_MAX)));
+    tally.branch(&format!("state as given, difficulty: {}", side(c.state_d, D_MIN, D_MAX)));
+}
+
+fn note_day(day: f32, tally: &mut Tally) {
+    tally.branch(match day {
+        x if x == 0.0 && x.is_sign_negative() => "day: -0.0",
+        x if x == 0.0 => "day: +0.0",
+        x if x == -rules::DAY_MAX => "day: -100000",
+        x if x < 0.0 => "day: negative",
+        x if x == rules::DAY_MAX => "day: 100000",
+        _ => "day: positive",
+    });
+}
+
+fn note_score(what: &str, r: f32, label: f32, weight: f32, tally: &mut Tally) {
+    tally.branch(&format!("score: {what}"));
+    tally.branch(&format!("probability: {}", side(r, MIN_PROB, MAX_PROB)));
+    tally.branch(&format!("label: {}", side(label, 0.0, 1.0)));
+    tally.branch(&format!("review weight: {}", side(weight, 0.0, rules::WEIGHT_MAX)));
+}
+
+fn note_no_score(weight: f32, tally: &mut Tally) {
+    let sign = if weight.is_sign_negative() { "-0.0" } else { "+0.0" };
+    tally.branch(&format!("score: none, review weight {sign}"));
+}
+
+/// Walks an accepted call's columns again, forward alone, and counts what is met.
+pub fn note_branches(c: &Loss, tally: &mut Tally) {
+    let p = RuntimeParams::new(&c.w);
+    for (is_so, text) in [
+        (c.rows == 0, "no rows"),
+        (c.columns == 0, "no columns"),
+        (c.rows == 512, "512 rows"),
+        (c.rows == rules::ROWS_MAX, "2048 rows"),
+        (c.columns == rules::COLUMNS_MAX, "512 columns"),
+    ] {
+        if is_so {
+            tally.branch(&format!("size: {text}"));
+        }
+    }
+    for column in 0..c.columns as usize {
+        let n = c.cut(column);
+        note_length(c, column, n, tally);
+        let mut state = State { s: 0.0, d: 0.0 };
+        for row in 0..c.steps(column) {
+            let i = c.cell(row, column);
+            let (next, cache) = step_forward(&p, state, plain_day(c.days[i]), c.ratings[i], row);
+            state = next;
+            note_step(&cache, c.days[i], row, tally);
+            if c.is_card && row > 0 {
+                let what = if cache.padding { "card's padding row, at 0" } else { "card's inner row" };
+                if c.weights[i] == 0.0 {
+                    note_no_score(c.weights[i], tally);
+                } else {
+                    note_score(what, cache.retrievability, c.labels[i], c.weights[i], tally);
+                }
+            }
+        }
+        if !c.is_card || n > 1 {
+            note_end(&p, c, column, state, tally);
+        }
+    }
+}
+
+fn note_length(c: &Loss, column: usize, n: usize, tally: &mut Tally) {
+    let what = match n {
+        _ if c.lengths[column] > c.rows => "over the rows",
+        0 => "0",
+        1 => "1",
+        2 => "2",
+        _ if n == c.rows as usize => "all rows",
+        _ => "between",
+    };
+    tally.branch(&format!("length: {}, {what}", if c.is_card { "card" } else { "prefix" }));
+}
+
+fn note_end(p: &RuntimeParams<'_>, c: &Loss, column: usize, state: State, tally: &mut Tally) {
+    let row = c.cut(column).max(1) - 1;
+    let i = c.score(row, column);
+    if c.weights[i] == 0.0 {
+        note_no_score(c.weights[i], tally);
+        return;
+    }
+    let (day, what) = if c.is_card { (c.days[i], "card's last row") } else { (c.targets[i], "prefix's target") };
+    note_day(day, tally);
+    let r = curve_forward(p, plain_day(day), state.s).retrievability;
+    note_score(what, r, c.labels[i], c.weights[i], tally);
+}
+
+// ---- what the generator asks: a day whose retrievability lies at an end of the probability's clamp
+
+/// For the score at the end of a column of a call without faults. The curve falls with the day.
+pub fn day_at_end(c: &Loss, column: usize, wanted: f32) -> f32 {
+    let p = RuntimeParams::new(&c.w);
+    let mut state = State { s: 0.0, d: 0.0 };
+    for row in 0..c.steps(column) {
+        let i = c.cell(row, column);
+        state = step_forward(&p, state, plain_day(c.days[i]), c.ratings[i], row).0;
+    }
+    let s = clamp(state.s, S_MIN, S_MAX);
+    let (mut low, mut high) = (0, rules::DAY_MAX.to_bits());
+    while low < high {
+        let middle = (low + high) / 2;
+        if curve_forward(&p, f32::from_bits(middle), s).retrievability > wanted {
+            low = middle + 1;
+        } else {
+            high = middle;
+        }
+    }
+    f32::from_bits(low)
+}
+
+pub const PROBABILITY_ENDS: [f32; 2] = [MIN_PROB, MAX_PROB];

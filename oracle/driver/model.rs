@@ -1,0 +1,75 @@
+// The Rust's scalar formulas and its filling, as their text stands, with document 01's added rules around them. run makes
+// the text: exp, ln and powf are ours (but not with --stock); mul_add and round are Rust's own.
+#![allow(dead_code, unused_imports)]
+use crate::cases::{Formula, Outcome, Part, FORMULAS};
+use crate::inference::MemoryState;
+use crate::simulation::{D_MAX, D_MIN, S_MAX, S_MIN};
+use crate::tally::Tally;
+use model_v6::*;
+
+// Its limits are `super::S_MIN` and the like.
+mod model_v6 {
+    use crate::kernels::Kernels;
+    include!(env!("MODEL"));
+}
+
+fn plain_day(day: f32) -> f32 {
+    if day == 0.0 { 0.0 } else { day }
+}
+
+fn next_state(w: &[f32], stability: f32, difficulty: f32, day: f32, rating: u32) -> [f32; 2] {
+    let state = MemoryState { stability, difficulty, stability_fast: stability };
+    let next = next_state_scalar(w, state, plain_day(day), rating);
+    [next.stability, next.difficulty]
+}
+
+// Which way the next state goes, and which answers lie at an end.
+fn note(c: &Formula, answer: &[f32], tally: &mut Tally) {
+    let name = FORMULAS[c.number];
+    if c.number == 8 {
+        let is_same_day = c.args[2].max(0.0).round() == 0.0;
+        let rating = c.rating.clamp(1, 4);
+        tally.branch(match (is_same_day, rating) {
+            (true, _) => "formula: next_state, same day",
+            (false, 1) => "formula: next_state, lapse",
+            _ => "formula: next_state, success",
+        });
+        if rating != c.rating {
+            tally.branch("formula: next_state, rating clamped");
+        }
+    }
+    for (end, x) in [("0", 0.0), ("0.0001", S_MIN), ("36500", S_MAX), ("1", D_MIN), ("10", D_MAX)] {
+        if answer.contains(&x) {
+            tally.branch(&format!("formula: {name}, answer {end}"));
+        }
+    }
+}
+
+/// What an accepted call gives.
+pub fn formula_outcome(c: &Formula, tally: &mut Tally) -> Outcome {
+    let answer = formula(c);
+    note(c, &answer, tally);
+    Outcome { refusal: 0, parts: vec![Part::singles("answer", answer)] }
+}
+
+fn formula(c: &Formula) -> Vec<f32> {
+    let (w, [x, y, z]) = (&c.w[..], c.args);
+    let rating = c.rating as usize;
+    let answer = match c.number {
+        0 => power_forgetting_curve_scalar(w, plain_day(x), y),
+        1 => next_interval_scalar(w, x, y),
+        2 => init_difficulty_scalar(w, rating),
+        3 => mean_reversion_scalar(w, x, y),
+        4 => next_difficulty_scalar(w, x, rating),
+        5 => stability_after_success_scalar(w, x, y, z, rating),
+        6 => stability_after_failure_scalar(w, x, y, z),
+        7 => stability_short_term_scalar(w, x, rating),
+        _ => return next_state(w, x, y, z, c.rating).to_vec(),
+    };
+    vec![answer]
+}
+
+/// The set made 21, where the text takes its length.
+pub fn filled(given: &[f32]) -> Option<Vec<f32>> {
+    check_and_fill_parameters_fsrs6(given)
+}

@@ -1,0 +1,224 @@
+// Document 01's checks and their order, read from it alone: the number of the refusal, 0 where a call is accepted.
+use crate::cases::{Formula, Loss, Reverse, Step, FIELDS, WEIGHTS};
+
+pub const BOX: [(f32, f32); WEIGHTS] = [
+    (0.0001, 36500.0), (0.0001, 36500.0), (0.0001, 36500.0), (0.0001, 36500.0), (0.0, 20.0), (0.0, 4.0), (0.0, 6.0),
+    (0.0, 1.0), (-5.0, 5.0), (0.0, 1.0), (0.0, 5.0), (0.001, 10.0), (0.0, 1.0), (0.0, 1.0), (0.0, 5.0), (0.0, 1.0),
+    (1.0, 10.0), (0.0, 3.0), (0.0, 3.0), (0.0, 1.0), (0.1, 1.0),
+];
+pub const DAY_MAX: f32 = 100000.0;
+pub const WEIGHT_MAX: f32 = 1000000.0;
+pub const ROWS_MAX: u32 = 2048;
+pub const COLUMNS_MAX: u32 = 512;
+pub const STABILITY: (f32, f32) = (0.0001, 36500.0);
+pub const DIFFICULTY: (f32, f32) = (1.0, 10.0);
+pub const UNIT: (f32, f32) = (0.0, 1.0);
+
+fn is_in(x: f32, (low, high): (f32, f32)) -> bool {
+    low <= x && x <= high
+}
+
+fn is_day(x: f32) -> bool {
+    is_in(x, (-DAY_MAX, DAY_MAX))
+}
+
+fn is_rating(x: f32) -> bool {
+    [0.0, 1.0, 2.0, 3.0, 4.0].contains(&x)
+}
+
+fn is_in_box(w: &[f32]) -> bool {
+    w.iter().zip(BOX).all(|(&x, ends)| is_in(x, ends))
+}
+
+/// 1, 2.
+pub fn weights_refusal(w: &[f32]) -> u32 {
+    match w.len() {
+        WEIGHTS if is_in_box(w) => 0,
+        WEIGHTS => 2,
+        _ => 1,
+    }
+}
+
+// ---- the losses
+
+fn has_sizes(c: &Loss) -> bool {
+    if c.rows > ROWS_MAX || c.columns > COLUMNS_MAX {
+        return false;
+    }
+    let columns = c.columns as usize;
+    let cells = c.rows as usize * columns;
+    let scores = if c.is_card { cells } else { columns };
+    c.days.len() >= cells
+        && c.ratings.len() >= cells
+        && c.lengths.len() >= columns
+        && (c.is_card || c.targets.len() >= columns)
+        && c.labels.len() >= scores
+        && c.weights.len() >= scores
+}
+
+fn has_room(c: &Loss) -> bool {
+    let longest = (0..c.columns as usize).map(|i| c.cut(i)).max().unwrap_or(0);
+    c.records.0 / FIELDS >= longest && (!c.is_card || c.step_grads.0 >= longest)
+}
+
+fn prefix_row_refusal(c: &Loss, row: usize, column: usize) -> u32 {
+    let i = c.cell(row, column);
+    if !is_rating(c.ratings[i]) {
+        6
+    } else if row > 0 && c.ratings[i] != 0.0 && !is_day(c.days[i]) {
+        7
+    } else {
+        0
+    }
+}
+
+fn target_refusal(c: &Loss, column: usize) -> u32 {
+    let weight = c.weights[column];
+    if !is_in(weight, (0.0, WEIGHT_MAX)) {
+        8
+    } else if weight == 0.0 {
+        0
+    } else if !is_in(c.labels[column], UNIT) {
+        8
+    } else if !is_day(c.targets[column]) {
+        7
+    } else {
+        0
+    }
+}
+
+fn card_row_refusal(c: &Loss, n: usize, row: usize, column: usize) -> u32 {
+    let i = c.cell(row, column);
+    let is_last = row == n - 1;
+    if !is_last && !is_rating(c.ratings[i]) {
+        return 6;
+    }
+    if row == 0 {
+        return 0;
+    }
+    let weight = c.weights[i];
+    let reads_day = if is_last { weight != 0.0 } else { c.ratings[i] != 0.0 };
+    if reads_day && !is_day(c.days[i]) {
+        return 7;
+    }
+    let is_good = is_in(weight, (0.0, WEIGHT_MAX)) && (weight == 0.0 || is_in(c.labels[i], UNIT));
+    if is_good { 0 } else { 8 }
+}
+
+fn column_refusal(c: &Loss, column: usize) -> u32 {
+    let n = c.cut(column);
+    let first = |mut rows: std::ops::Range<usize>, f: &dyn Fn(usize) -> u32| {
+        rows.find_map(|row| Some(f(row)).filter(|&x| x != 0)).unwrap_or(0)
+    };
+    if c.is_card {
+        return first(0..n, &|row| card_row_refusal(c, n, row, column));
+    }
+    if n == 0 {
+        return 9;
+    }
+    match first(0..n, &|row| prefix_row_refusal(c, row, column)) {
+        0 => target_refusal(c, column),
+        x => x,
+    }
+}
+
+/// All that is wrong, in order: 1, 2, 5, 3, 4, then column by column. The loss alone is lent nothing that could give 5 or
+/// 4, and where sizes are wrong nothing behind them can be asked.
+pub fn loss_faults(c: &Loss) -> Vec<u32> {
+    let mut faults = vec![weights_refusal(&c.w)];
+    if c.with_grad && c.slots.len() != WEIGHTS {
+        faults.push(5);
+    }
+    if has_sizes(c) {
+        if c.with_grad && !has_room(c) {
+            faults.push(4);
+        }
+        faults.extend((0..c.columns as usize).map(|i| column_refusal(c, i)));
+    } else {
+        faults.push(3);
+    }
+    faults.retain(|&x| x != 0);
+    faults
+}
+
+/// The first of them.
+pub fn loss_refusal(c: &Loss) -> u32 {
+    loss_faults(c).first().copied().unwrap_or(0)
+}
+
+// ---- single steps, formulas, filling
+
+pub fn is_first_step(c: &Step) -> bool {
+    c.row == 0 && c.s == 0.0 && c.rating != 0.0
+}
+
+/// 'its day goes unread in padding and in a first step'
+pub fn is_day_read(c: &Step) -> bool {
+    c.rating != 0.0 && !is_first_step(c)
+}
+
+fn stepped_refusal(c: &Step, has_slots: bool) -> u32 {
+    match weights_refusal(&c.w) {
+        0 => {}
+        x => return x,
+    }
+    if !has_slots {
+        5
+    } else if !c.s.is_finite() || !c.d.is_finite() {
+        13
+    } else if !is_rating(c.rating) {
+        6
+    } else if is_day_read(c) && !is_day(c.day) {
+        7
+    } else {
+        0
+    }
+}
+
+pub fn step_refusal(c: &Step) -> u32 {
+    stepped_refusal(c, true)
+}
+
+pub fn reverse_refusal(c: &Reverse) -> u32 {
+    stepped_refusal(&c.step, c.slots.len() == WEIGHTS)
+}
+
+pub fn formula_refusal(c: &Formula) -> u32 {
+    match weights_refusal(&c.w) {
+        0 => {}
+        x => return x,
+    }
+    let [a, b, d] = c.args;
+    let is_rated = (1..=4).contains(&c.rating);
+    let is_good = match c.number {
+        0 => is_day(a) && b.is_finite(),
+        1 | 3 => a.is_finite() && b.is_finite(),
+        2 => is_rated,
+        4 => is_in(a, DIFFICULTY) && is_rated,
+        5 => is_in(a, STABILITY) && is_in(b, UNIT) && is_in(d, DIFFICULTY) && is_rated,
+        6 => is_in(a, STABILITY) && is_in(b, UNIT) && is_in(d, DIFFICULTY),
+        7 => is_in(a, STABILITY) && is_rated,
+        8 => a.is_finite() && b.is_finite() && is_day(d),
+        _ => unreachable!(),
+    };
+    if is_good { 0 } else { 13 }
+}
+
+/// 12, then 2; `filled` is the set made 21, where the length is one of the four.
+pub fn filling_refusal(given: &[f32], filled: Option<&[f32]>) -> u32 {
+    match filled {
+        None => 12,
+        Some(w) if given.iter().all(|x| x.is_finite()) && is_in_box(w) => 0,
+        Some(_) => 2,
+    }
+}
+
+/// Whether exp, ln or pow take the arguments; where they do not (10) the answer is a NaN, and nowhere else.
+pub fn is_kernel_domain(number: usize, x: f64, y: f64) -> bool {
+    match number {
+        0 | 1 => x.is_finite(),
+        2 | 3 => x.is_finite() && x > 0.0,
+        4 | 5 => x.is_finite() && x > 0.0 && (-16.0..=16.0).contains(&y),
+        _ => true,
+    }
+}
