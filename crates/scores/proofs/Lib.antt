@@ -1,1 +1,5 @@
 pub mod Literals
+pub mod Settled
+pub mod Zeros
+pub mod Logs
+pub mod Labels

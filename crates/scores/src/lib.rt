@@ -2,7 +2,11 @@
 ghost use mathlib.Core.Path.{_≡_};
 ghost use Rattle.scores.specs.Scores.{probability, bceLoss, bceGrad, isInside, scoreDef};
 ghost use Rattle.domain.specs.Doubles.{zero64};
-ghost use mathlib.Core.Bool.{cond};
+ghost use Rattle.domain.specs.Limits.{zero32, one};
+ghost use Rattle.domain.specs.Floats.{_+ᶠ_, _-ᶠ_, _*ᶠ_};
+ghost use Rattle.kernels.specs.Calls.{ln32};
+ghost use lib.Ieee.{lt};
+ghost use mathlib.Core.Bool.{_&&_, cond};
 use domain::floats::clamp;
 use ln_pow::ln::ln_f32;
 use std::num::f32_to_f64_with_nan;
@@ -23,10 +27,39 @@ fn probability(r_raw: f32) -> f32
     clamp(r_raw, MIN_PROB, MAX_PROB)
 }
 
+// 0 < r < 1: then both logarithms are numbers, and neither is -0.
+fn has_logs(r: f32) -> bool
+    ensures { λ q. ⌜ q ≡ lt zero32 r && lt r one ⌝ }
+{
+    0.0 < r && r < 1.0
+}
+
+fn both_logs(r: f32, label: f32) -> f32
+    ensures { λ q. ⌜ q ≡ label *ᶠ ln32 r +ᶠ (one -ᶠ label) *ᶠ ln32 (one -ᶠ r) ⌝ }
+{
+    (label * ln_f32(r)) + ((1.0 - label) * ln_f32(1.0 - r))
+}
+
+// A label of 1 or 0 takes one logarithm: the other's product is a zero, and adding it changes nothing.
+fn log_likelihood(r: f32, label: f32) -> f32
+    ensures { λ q. ⌜ q ≡ label *ᶠ ln32 r +ᶠ (one -ᶠ label) *ᶠ ln32 (one -ᶠ r) ⌝ }
+{
+    if !has_logs(r) {
+        return both_logs(r, label);
+    }
+    if label == 1.0 {
+        return ln_f32(r);
+    }
+    if label == 0.0 {
+        return ln_f32(1.0 - r);
+    }
+    both_logs(r, label)
+}
+
 fn bce_loss(r: f32, label: f32, weight: f32) -> f32
     ensures { λ q. ⌜ q ≡ bceLoss r label weight ⌝ }
 {
-    -((label * ln_f32(r)) + ((1.0 - label) * ln_f32(1.0 - r))) * weight
+    -log_likelihood(r, label) * weight
 }
 
 fn bce_grad(r: f32, label: f32, weight: f32) -> f32
