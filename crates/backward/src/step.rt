@@ -1,6 +1,11 @@
 // One step's reverse, through the branch that its record names.
 ghost use mathlib.Core.Path.{_≡_};
-ghost use Rattle.backward.specs.Step.{carried, firstFlow, firstMoved, shortFlow, shortAll, lapseFlow, lapseAll, successFlow, successAll, flowDef, flowMoved, recordCurve, stepGrad, stepMoved};
+ghost use Rattle.weights.specs.Weights.{_!_};
+ghost use Rattle.gradients.specs.Stability.{shortBack, shortMoved};
+ghost use Rattle.failure_gradients.specs.Failure.{failureBack, failureMoved};
+ghost use Rattle.success_gradients.specs.Success.{successBack, successMoved};
+ghost use Rattle.backward.specs.Own.{ownGrads, ownShort, ownFlow, ownMoved, alone};
+ghost use Rattle.backward.specs.Step.{carried, firstFlow, firstMoved, flowDef, flowMoved, recordCurve, stepGrad, stepMoved};
 use branches::curve::CurveCache;
 use branches::params::RuntimeParams;
 use branches::stability::Branch;
@@ -53,17 +58,14 @@ fn flow_short(
     value: f32,
     active: bool,
     g_s: f64,
-    g_d: f64,
     g_r: f64,
     gw: &mut [f64],
 ) -> Grads
-    ensures { λ q. ⌜ (q ≡ shortFlow p c raw value active «g_s» «g_d» «g_r») × (now (gw .exit) ≡ shortAll p c raw active «g_s» «g_d» (now (gw .entry))) ⌝ }
+    ensures { λ q. ⌜ (q ≡ ownShort (shortBack (p .w ! 19) (c .last .s) raw value active «g_s») «g_r») × (now (gw .exit) ≡ shortMoved (p .w ! 17) (p .w ! 18) (c .last .s) (c .rating) raw active «g_s» (now (gw .entry))) ⌝ }
 {
     let w = p.w;
     let last = c.last;
-    let last_d = last.d;
     let rating = c.rating;
-    let pre_d = c.pre_d;
     let s = backward_short(
         w[17],
         w[18],
@@ -76,10 +78,9 @@ fn flow_short(
         g_s,
         gw,
     );
-    let d = backward_difficulty(p, last_d, rating, pre_d, g_d, gw);
     Grads {
         s: 0.0 + s,
-        d: 0.0 + d,
+        d: 0.0,
         r: g_r,
     }
 }
@@ -91,50 +92,35 @@ fn flow_lapse(
     floor: f32,
     floored: bool,
     g_s: f64,
-    g_d: f64,
     g_r: f64,
     gw: &mut [f64],
 ) -> Grads
-    ensures { λ q. ⌜ (q ≡ lapseFlow p c raw floor floored «g_s» «g_d» «g_r») × (now (gw .exit) ≡ lapseAll p c raw floor floored «g_s» «g_d» (now (gw .entry))) ⌝ }
+    ensures { λ q. ⌜ (q ≡ ownGrads (failureBack p (c .last) (c .retrievability) raw floor floored «g_s») «g_r») × (now (gw .exit) ≡ failureMoved p (c .last) (c .retrievability) raw floor floored «g_s» (now (gw .entry))) ⌝ }
 {
     let last = c.last;
-    let last_d = last.d;
-    let rating = c.rating;
-    let pre_d = c.pre_d;
     let g = backward_failure(p, last, c.retrievability, raw, floor, floored, g_s, gw);
-    let d = backward_difficulty(p, last_d, rating, pre_d, g_d, gw);
     Grads {
         s: 0.0 + g.s,
-        d: 0.0 + g.d + d,
+        d: 0.0 + g.d,
         r: g_r + g.r,
     }
 }
 
-fn flow_success(
-    p: RuntimeParams,
-    c: StepRecord,
-    g_s: f64,
-    g_d: f64,
-    g_r: f64,
-    gw: &mut [f64],
-) -> Grads
-    ensures { λ q. ⌜ (q ≡ successFlow p c «g_s» «g_d» «g_r») × (now (gw .exit) ≡ successAll p c «g_s» «g_d» (now (gw .entry))) ⌝ }
+fn flow_success(p: RuntimeParams, c: StepRecord, g_s: f64, g_r: f64, gw: &mut [f64]) -> Grads
+    ensures { λ q. ⌜ (q ≡ ownGrads (successBack p (c .last) (c .rating) (c .retrievability) «g_s») «g_r») × (now (gw .exit) ≡ successMoved p (c .last) (c .rating) (c .retrievability) «g_s» (now (gw .entry))) ⌝ }
 {
     let last = c.last;
-    let last_d = last.d;
     let rating = c.rating;
-    let pre_d = c.pre_d;
     let g = backward_success(p, last, rating, c.retrievability, g_s, gw);
-    let d = backward_difficulty(p, last_d, rating, pre_d, g_d, gw);
     Grads {
         s: 0.0 + g.s,
-        d: 0.0 + g.d + d,
+        d: 0.0 + g.d,
         r: g_r + g.r,
     }
 }
 
-fn flow(p: RuntimeParams, c: StepRecord, g_s: f64, g_d: f64, g_r: f64, gw: &mut [f64]) -> Grads
-    ensures { λ q. ⌜ (q ≡ flowDef p c (c .branch) «g_s» «g_d» «g_r») × (now (gw .exit) ≡ flowMoved p c (c .branch) «g_s» «g_d» (now (gw .entry))) ⌝ }
+fn own_flow(p: RuntimeParams, c: StepRecord, g_s: f64, g_d: f64, g_r: f64, gw: &mut [f64]) -> Grads
+    ensures { λ q. ⌜ (q ≡ ownFlow p c (c .branch) «g_s» «g_d» «g_r») × (now (gw .exit) ≡ ownMoved p c (c .branch) «g_s» «g_d» (now (gw .entry))) ⌝ }
 {
     let branch = c.branch;
     match branch {
@@ -147,7 +133,6 @@ fn flow(p: RuntimeParams, c: StepRecord, g_s: f64, g_d: f64, g_r: f64, gw: &mut 
             value,
             active,
             g_s,
-            g_d,
             g_r,
             gw,
         ),
@@ -155,8 +140,46 @@ fn flow(p: RuntimeParams, c: StepRecord, g_s: f64, g_d: f64, g_r: f64, gw: &mut 
             raw,
             floor,
             floored,
-        } => flow_lapse(p, c, raw, floor, floored, g_s, g_d, g_r, gw),
-        Branch::Success => flow_success(p, c, g_s, g_d, g_r, gw),
+        } => flow_lapse(p, c, raw, floor, floored, g_s, g_r, gw),
+        Branch::Success => flow_success(p, c, g_s, g_r, gw),
+    }
+}
+
+// Padding keeps the difficulty, and a first review does not start from one: nothing goes back through its update.
+fn is_alone(branch: Branch) -> bool
+    ensures { λ q. ⌜ q ≡ alone branch ⌝ }
+{
+    match branch {
+        Branch::Padding => true,
+        Branch::First(rating) => true,
+        Branch::SameDay { raw, value, active } => false,
+        Branch::Lapse {
+            raw,
+            floor,
+            floored,
+        } => false,
+        Branch::Success => false,
+    }
+}
+
+// The difficulty comes last in each branch: one call for all of them is one that the compiler inlines.
+fn flow(p: RuntimeParams, c: StepRecord, g_s: f64, g_d: f64, g_r: f64, gw: &mut [f64]) -> Grads
+    ensures { λ q. ⌜ (q ≡ flowDef p c (c .branch) «g_s» «g_d» «g_r») × (now (gw .exit) ≡ flowMoved p c (c .branch) «g_s» «g_d» (now (gw .entry))) ⌝ }
+{
+    let branch = c.branch;
+    let g = own_flow(p, c, g_s, g_d, g_r, gw);
+    if is_alone(branch) {
+        return g;
+    }
+    let last = c.last;
+    let last_d = last.d;
+    let rating = c.rating;
+    let pre_d = c.pre_d;
+    let d = backward_difficulty(p, last_d, rating, pre_d, g_d, gw);
+    Grads {
+        s: g.s,
+        d: g.d + d,
+        r: g.r,
     }
 }
 

@@ -1,4 +1,4 @@
-use Rattle.backward.specs.Step.{lapseFlow, lapseAll}
+use Rattle.backward.specs.Own.{ownGrads}
 use borrow.Author.Needs.{needs}
 use Rattle.backward.proofs.step.flow_lapse.Statement.{statement}
 use Rattle.backward.proofs.step.flow_lapse.Tie as tie
@@ -6,19 +6,15 @@ use Rattle.backward.proofs.step.flow_lapse.Tie as tie
 backward-failure-requires : tie.Need-backward-failure-requires
 backward-failure-requires c κs = search needs
 
-backward-difficulty-requires : tie.Need-backward-difficulty-requires
-backward-difficulty-requires c κs = search needs
-
 same-length : tie.Need-same-length
 same-length c = search needs
 
 returns : tie.Need-returns
-unfolding lapseFlow lapseAll
+unfolding ownGrads
 returns c = (
-  rw (c .before .before .before .before .before .backward-difficulty .ensures .0, c .before .before .before .before .before .before .before .before .before .backward-failure .ensures .0),
-  rw (c .before .before .before .before .before .backward-difficulty .ensures .1, c .before .before .before .before .before .before .before .before .before .backward-failure .ensures .1),
+  rw (c .before .before .before .before .before .backward-failure .ensures .0),
+  c .before .before .before .before .before .backward-failure .ensures .1,
 )
 
 pub flow-lapse-spec : {M : Type 1} → statement M
-flow-lapse-spec =
-    tie.close (tie.spec backward-failure-requires backward-difficulty-requires same-length returns)
+flow-lapse-spec = tie.close (tie.spec backward-failure-requires same-length returns)

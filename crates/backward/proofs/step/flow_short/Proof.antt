@@ -1,4 +1,4 @@
-use Rattle.backward.specs.Step.{shortFlow, shortAll}
+use Rattle.backward.specs.Own.{ownShort}
 use borrow.Author.Needs.{needs}
 use Rattle.backward.proofs.step.flow_short.Statement.{statement}
 use Rattle.backward.proofs.step.flow_short.Tie as tie
@@ -15,17 +15,14 @@ array-read-backward-short-3 c = search needs
 backward-short-requires : tie.Need-backward-short-requires
 backward-short-requires c κs = search needs
 
-backward-difficulty-requires : tie.Need-backward-difficulty-requires
-backward-difficulty-requires c κs = search needs
-
 same-length : tie.Need-same-length
 same-length c = search needs
 
 returns : tie.Need-returns
-unfolding shortFlow shortAll
+unfolding ownShort
 returns c = (
-  rw (c .before .before .backward-difficulty .ensures .0, c .before .before .before .before .before .before .backward-short .ensures .0),
-  rw (c .before .before .backward-difficulty .ensures .1, c .before .before .before .before .before .before .backward-short .ensures .1),
+  rw (c .before .before .backward-short .ensures .0),
+  c .before .before .backward-short .ensures .1,
 )
 
 pub flow-short-spec : {M : Type 1} → statement M
@@ -36,6 +33,5 @@ flow-short-spec =
     array-read-backward-short-2
     array-read-backward-short-3
     backward-short-requires
-    backward-difficulty-requires
     same-length
     returns)

@@ -1,0 +1,45 @@
+-- A branch's own part of a step's reverse: all but what goes back through the difficulty's update, which every review but the first has alike. proofs/Flow.antt has that the two make flowDef and flowMoved. Assumes nothing.
+use mathlib.Core.Bool.{Bool, true, false}
+use mathlib.Core.List.{List}
+use lib.Ieee.{Float}
+use Rattle.weights.specs.Weights.{_!_}
+use Rattle.domain.specs.Doubles.{_+ᵈ_, zero64}
+use Rattle.branches.specs.declared.params.RuntimeParams.{RuntimeParams}
+use Rattle.branches.specs.declared.stability.Branch.{Branch}
+use Rattle.branches.specs.declared.stability.Branch.the-variants.{Padding, First, SameDay, Lapse, Success}
+use Rattle.forward.specs.declared.step.StepRecord.{StepRecord}
+use Rattle.gradients.specs.Stability.{shortBack, shortMoved}
+use Rattle.failure_gradients.specs.Failure.{failureBack, failureMoved}
+use Rattle.success_gradients.specs.Success.{successBack, successMoved}
+use Rattle.gradients.specs.declared.stability.Grads.{Grads}
+use Rattle.backward.specs.Step.{carried, firstFlow, firstMoved}
+
+-- a lapse and a success: g is what goes back through the stability
+unfoldable pub ownGrads : (g : Grads) (g-r : Float) → Grads
+ownGrads g g-r = record { s = zero64 +ᵈ g .s; d = zero64 +ᵈ g .d; r = g-r +ᵈ g .r }
+
+-- s is what goes back through the short-term stability, which does not depend on the difficulty
+unfoldable pub ownShort : (s g-r : Float) → Grads
+ownShort s g-r = record { s = zero64 +ᵈ s; d = zero64; r = g-r }
+
+unfoldable pub ownFlow : (p : RuntimeParams) (c : StepRecord) (branch : Branch) (g-s g-d g-r : Float) → Grads
+ownFlow p c Padding g-s g-d g-r = carried g-s g-d g-r
+ownFlow p c (First rating) g-s g-d g-r = firstFlow g-r
+ownFlow p c (SameDay raw value active) g-s g-d g-r = ownShort (shortBack (p .w ! 19) (c .last .s) raw value active g-s) g-r
+ownFlow p c (Lapse raw floor floored) g-s g-d g-r = ownGrads (failureBack p (c .last) (c .retrievability) raw floor floored g-s) g-r
+ownFlow p c Success g-s g-d g-r = ownGrads (successBack p (c .last) (c .rating) (c .retrievability) g-s) g-r
+
+unfoldable pub ownMoved : (p : RuntimeParams) (c : StepRecord) (branch : Branch) (g-s g-d : Float) (gw : List Float) → List Float
+ownMoved p c Padding g-s g-d gw = gw
+ownMoved p c (First rating) g-s g-d gw = firstMoved p rating g-s g-d gw
+ownMoved p c (SameDay raw value active) g-s g-d gw = shortMoved (p .w ! 17) (p .w ! 18) (c .last .s) (c .rating) raw active g-s gw
+ownMoved p c (Lapse raw floor floored) g-s g-d gw = failureMoved p (c .last) (c .retrievability) raw floor floored g-s gw
+ownMoved p c Success g-s g-d gw = successMoved p (c .last) (c .rating) (c .retrievability) g-s gw
+
+-- the branches whose own part is all
+unfoldable pub alone : Branch → Bool
+alone Padding = true
+alone (First rating) = true
+alone (SameDay raw value active) = false
+alone (Lapse raw floor floored) = false
+alone Success = false
