@@ -1,13 +1,13 @@
 // analytic_v6.rs, backward: the reverse of a lapse.
 ghost use mathlib.Core.Path.{_≡_};
+ghost use Rattle.kernels.specs.Calls.{ln64};
 ghost use Rattle.failure_gradients.specs.Failure.{floorGrads, floorSlots, lapseParts, lapseSlots, lapseGrads, failureBack, failureMoved};
 use branches::params::RuntimeParams;
 use branches::stability::State;
 use exp::exp_f64;
 use gradients::stability::Grads;
 use gradients::stability::no_grads;
-use ln_pow::ln::ln_f64;
-use ln_pow::pow::pow_f64;
+use ln_pow::both::pow_ln_f64;
 use slots::slots::add;
 use std::num::f32_to_f64_with_nan;
 
@@ -34,7 +34,9 @@ pub struct LapseParts {
     pub r: f64,
     pub base: f64,
     pub p: f64,
+    pub ln_base: f64,
     pub last_d_pow: f64,
+    pub ln_d: f64,
     pub er: f64,
     pub w11: f64,
     pub w12: f64,
@@ -54,15 +56,18 @@ fn lapse_parts(w11: f32, w12: f32, w13: f32, w14: f32, last: State, r: f32, raw:
     let w14_64 = f32_to_f64_with_nan(w14);
     let raw64 = f32_to_f64_with_nan(raw);
     let base = f32_to_f64_with_nan(last.s) + 1.0;
-    let p = pow_f64(base, w13_64);
-    let last_d_pow = pow_f64(d, -w12_64);
+    // The logarithms behind the powers are those of slots 13 and 12.
+    let of_base = pow_ln_f64(base, w13_64);
+    let of_d = pow_ln_f64(d, -w12_64);
     let er = exp_f64((1.0 - r64) * w14_64);
     LapseParts {
         d,
         r: r64,
         base,
-        p,
-        last_d_pow,
+        p: of_base.pow,
+        ln_base: of_base.ln,
+        last_d_pow: of_d.pow,
+        ln_d: of_d.ln,
         er,
         w11: w11_64,
         w12: w12_64,
@@ -73,11 +78,12 @@ fn lapse_parts(w11: f32, w12: f32, w13: f32, w14: f32, last: State, r: f32, raw:
 }
 
 fn lapse_slots(c: LapseParts, g: f64, gw: &mut [f64])
+    requires { ⌜ (c .«ln_d» ≡ ln64 (c .d)) × (c .«ln_base» ≡ ln64 (c .base)) ⌝ }
     ensures { λ q. ⌜ now (gw .exit) ≡ lapseSlots c g (now (gw .entry)) ⌝ }
 {
     let v11 = g * c.raw / c.w11;
-    let v12 = g * c.raw * -ln_f64(c.d);
-    let v13 = g * c.w11 * c.last_d_pow * c.er * c.p * ln_f64(c.base);
+    let v12 = g * c.raw * -c.ln_d;
+    let v13 = g * c.w11 * c.last_d_pow * c.er * c.p * c.ln_base;
     let v14 = g * c.raw * (1.0 - c.r);
     add(gw, 11, v11);
     add(gw, 12, v12);

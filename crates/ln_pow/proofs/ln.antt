@@ -1,2 +1,2 @@
 -- What the proofs of `ln` share.
-mod Answer
+pub mod Answer

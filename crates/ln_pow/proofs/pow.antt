@@ -1,3 +1,3 @@
 -- What the proofs of `pow` share.
-mod Answer
+pub mod Answer
 mod Product

@@ -12,7 +12,7 @@ use soft::pack::pack_wide_f64;
 use wide::Wide;
 
 // high * 2^32 + low in two words.
-fn joined(high: u64, low: u64) -> Wide
+pub(crate) fn joined(high: u64, low: u64) -> Wide
     requires { ⌜ (high < 2 ^ 50) × (low < 2 ^ 32) ⌝ }
     ensures { λ r. ⌜ valueOf r ≡ high * 2 ^ 32 + low ⌝ }
 {

@@ -14,14 +14,14 @@ use parts::units::measure;
 use wide::Wide;
 
 // Whether x ^ y is asked for at all.
-fn in_range(y: f64) -> bool
+pub(crate) fn in_range(y: f64) -> bool
     ensures { λ r. ⌜ r ≡ powered y ⌝ }
 {
     -16.0 <= y && y <= 16.0
 }
 
 // The sign of a product.
-fn unlike(a: bool, b: bool) -> bool
+pub(crate) fn unlike(a: bool, b: bool) -> bool
     ensures { λ r. ⌜ r ≡ Ieee.unlike a b ⌝ }
 {
     if a { !b } else { b }
@@ -29,7 +29,7 @@ fn unlike(a: bool, b: bool) -> bool
 
 // digits * 2^places smallest doubles times high * 2^32 + low, cut to a whole number. The lower 32 digits of the
 // product leave first, since the whole of it has more than two words.
-fn times(digits: u64, places: u64, high: u64, low: u64) -> Wide
+pub(crate) fn times(digits: u64, places: u64, high: u64, low: u64) -> Wide
     requires { ⌜ (digits < 2 ^ 53) × (places ≤ 1042) × (high < 2 ^ 50) × (low < 2 ^ 32) ⌝ }
     ensures { λ r. ⌜ valueOf r ≡ digits * 2 ^ places * (high * 2 ^ 32 + low) / 2 ^ 1074 ⌝ }
 {

@@ -25,6 +25,7 @@ successParts a w9 w10 hp eb last r g =
       a = a;
       b = b;
       «c_s» = c-s;
+      «ln_s» = ln64 (last .s);
       e = e;
       «exp_e» = e +ᵈ one64;
       hp = hp;

@@ -1,5 +1,6 @@
 // analytic_v6.rs, backward: the reverse of a success.
 ghost use mathlib.Core.Path.{_≡_};
+ghost use Rattle.kernels.specs.Calls.{ln64};
 ghost use Rattle.success_gradients.specs.Success.{successParts, successSlots, successGrads, successBack, successMoved};
 use branches::params::RuntimeParams;
 use branches::stability::State;
@@ -7,8 +8,7 @@ use domain::floats::choose;
 use exp::exp_f64;
 use gradients::stability::Grads;
 use gradients::stability::no_grads;
-use ln_pow::ln::ln_f64;
-use ln_pow::pow::pow_f64;
+use ln_pow::both::pow_ln_f64;
 use slots::slots::add;
 use slots::slots::add_if;
 use std::num::f32_to_f64_with_nan;
@@ -20,6 +20,7 @@ pub struct SuccessParts {
     pub a: f64,
     pub b: f64,
     pub c_s: f64,
+    pub ln_s: f64,
     pub e: f64,
     pub exp_e: f64,
     pub hp: f64,
@@ -50,7 +51,9 @@ fn success_parts(
     let hp64 = f32_to_f64_with_nan(hp);
     let eb64 = f32_to_f64_with_nan(eb);
     let b = 11.0 - d;
-    let c_s = pow_f64(s, -w9_64);
+    // The logarithm behind the power is that of slot 9.
+    let of_s = pow_ln_f64(s, -w9_64);
+    let c_s = of_s.pow;
     let e = exp_f64((1.0 - r64) * w10_64) - 1.0;
     SuccessParts {
         s,
@@ -58,6 +61,7 @@ fn success_parts(
         a,
         b,
         c_s,
+        ln_s: of_s.ln,
         e,
         exp_e: e + 1.0,
         hp: hp64,
@@ -70,10 +74,11 @@ fn success_parts(
 }
 
 fn success_slots(c: SuccessParts, rating: f32, gw: &mut [f64])
+    requires { ⌜ c .«ln_s» ≡ ln64 (c .s) ⌝ }
     ensures { λ q. ⌜ now (gw .exit) ≡ successSlots c rating (now (gw .entry)) ⌝ }
 {
     let v8 = c.g_inc * c.inc;
-    let v9 = c.g_inc * c.inc * -ln_f64(c.s);
+    let v9 = c.g_inc * c.inc * -c.ln_s;
     let v10 = c.g_inc * c.a * c.b * c.c_s * c.hp * c.eb * ((1.0 - c.r) * c.exp_e);
     let v15 = c.g_inc * c.a * c.b * c.c_s * c.e * c.eb;
     let v16 = c.g_inc * c.a * c.b * c.c_s * c.e * c.hp;

@@ -1,3 +1,4 @@
+use Rattle.failure_gradients.specs.Failure.{lapseParts}
 use borrow.Author.Needs.{needs}
 use Rattle.failure_gradients.proofs.backward_raw.Statement.{statement}
 use Rattle.failure_gradients.proofs.backward_raw.Tie as tie
@@ -6,7 +7,8 @@ lapse-parts-requires : tie.Need-lapse-parts-requires
 lapse-parts-requires c κs = search needs
 
 lapse-slots-requires : tie.Need-lapse-slots-requires
-lapse-slots-requires c κs = search needs
+unfolding lapseParts
+lapse-slots-requires c κs = (rw (c .before .lapse-parts .ensures), rw (c .before .lapse-parts .ensures))
 
 lapse-grads-requires : tie.Need-lapse-grads-requires
 lapse-grads-requires c κs = search needs

@@ -1,4 +1,4 @@
-use Rattle.success_gradients.specs.Success.{successBack, successMoved}
+use Rattle.success_gradients.specs.Success.{successParts, successBack, successMoved}
 use borrow.Author.Needs.{needs}
 use Rattle.success_gradients.proofs.backward_success.Statement.{statement}
 use Rattle.success_gradients.proofs.backward_success.Tie as tie
@@ -35,7 +35,8 @@ success-parts-requires : tie.Need-success-parts-requires
 success-parts-requires c κs = search needs
 
 success-slots-requires : tie.Need-success-slots-requires
-success-slots-requires c κs = search needs
+unfolding successParts
+success-slots-requires c κs = rw (c .before .success-parts .ensures)
 
 success-grads-requires : tie.Need-success-grads-requires
 success-grads-requires c κs = search needs

@@ -24,8 +24,8 @@ f32-to-f64-with-nan-requires-6 c κs = search needs
 f32-to-f64-with-nan-requires-7 : tie.Need-f32-to-f64-with-nan-requires-7
 f32-to-f64-with-nan-requires-7 c κs = search needs
 
-pow-f64-requires : tie.Need-pow-f64-requires
-pow-f64-requires c κs = search needs
+pow-ln-f64-requires : tie.Need-pow-ln-f64-requires
+pow-ln-f64-requires c κs = search needs
 
 exp-f64-requires : tie.Need-exp-f64-requires
 exp-f64-requires c κs = search needs
@@ -33,7 +33,7 @@ exp-f64-requires c κs = search needs
 returns : tie.Need-returns
 unfolding successParts
 returns c =
-    rw (c .exp-f64 .ensures, c .before .pow-f64 .ensures, c .before .before .f32-to-f64-with-nan7 .ensures, c .before .before .before .f32-to-f64-with-nan6 .ensures, c .before .before .before .before .f32-to-f64-with-nan5 .ensures, c .before .before .before .before .before .f32-to-f64-with-nan4 .ensures, c .before .before .before .before .before .before .f32-to-f64-with-nan3 .ensures, c .before .before .before .before .before .before .before .f32-to-f64-with-nan2 .ensures, c .before .before .before .before .before .before .before .before .f32-to-f64-with-nan .ensures)
+    rw (c .exp-f64 .ensures, c .before .pow-ln-f64 .ensures, c .before .before .f32-to-f64-with-nan7 .ensures, c .before .before .before .f32-to-f64-with-nan6 .ensures, c .before .before .before .before .f32-to-f64-with-nan5 .ensures, c .before .before .before .before .before .f32-to-f64-with-nan4 .ensures, c .before .before .before .before .before .before .f32-to-f64-with-nan3 .ensures, c .before .before .before .before .before .before .before .f32-to-f64-with-nan2 .ensures, c .before .before .before .before .before .before .before .before .f32-to-f64-with-nan .ensures)
 
 pub success-parts-spec : {M : Type 1} → statement M
 success-parts-spec =
@@ -46,6 +46,6 @@ success-parts-spec =
     f32-to-f64-with-nan-requires-5
     f32-to-f64-with-nan-requires-6
     f32-to-f64-with-nan-requires-7
-    pow-f64-requires
+    pow-ln-f64-requires
     exp-f64-requires
     returns)

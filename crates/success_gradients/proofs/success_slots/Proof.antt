@@ -3,9 +3,6 @@ use borrow.Author.Needs.{needs}
 use Rattle.success_gradients.proofs.success_slots.Statement.{statement}
 use Rattle.success_gradients.proofs.success_slots.Tie as tie
 
-ln-f64-requires : tie.Need-ln-f64-requires
-ln-f64-requires c κs = search needs
-
 add-requires : tie.Need-add-requires
 add-requires c κs = search needs
 
@@ -27,13 +24,12 @@ same-length c = search needs
 returns : tie.Need-returns
 unfolding successSlots
 returns c =
-    rw (c .before .before .add-if2 .ensures, c .before .before .before .before .before .before .add-if .ensures, c .before .before .before .before .before .before .before .before .before .before .add3 .ensures, c .before .before .before .before .before .before .before .before .before .before .before .before .before .before .add2 .ensures, c .before .before .before .before .before .before .before .before .before .before .before .before .before .before .before .before .before .before .add .ensures, c .before .before .before .before .before .before .before .before .before .before .before .before .before .before .before .before .before .before .before .before .before .before .before .before .before .before .before .before .before .before .before .before .before .before .before .before .before .ln-f64 .ensures)
+    rw (c .before .before .add-if2 .ensures, c .before .before .before .before .before .before .add-if .ensures, c .before .before .before .before .before .before .before .before .before .before .add3 .ensures, c .before .before .before .before .before .before .before .before .before .before .before .before .before .before .add2 .ensures, c .before .before .before .before .before .before .before .before .before .before .before .before .before .before .before .before .before .before .add .ensures, ← c .before .before .before .before .before .before .before .before .before .before .before .before .before .before .before .before .before .before .before .before .before .before .before .before .before .before .before .before .before .before .before .before .before .before .before .before .before .before .before .before .before .pre)
 
 pub success-slots-spec : {M : Type 1} → statement M
 success-slots-spec =
     tie.close
     (tie.spec
-    ln-f64-requires
     add-requires
     add-requires-2
     add-requires-3
