@@ -10,7 +10,7 @@ use borrow.Author.Tests.{eq-eqb, ne-eqb, eqb-true}
 use Rattle.weights.specs.Weights.{copyDef, weightsRefusal}
 use Rattle.weights.proofs.Accepted.{accepted-length}
 use Rattle.weights.proofs.Copy.{copy-whole}
-use Rattle.branches.specs.Params.{paramsDef}
+use Rattle.parameters.specs.Params.{paramsDef}
 use Rattle.forward.specs.Step.{noState}
 use Rattle.branches.specs.declared.stability.State.{State}
 use Rattle.backward.specs.Step.{stepGrad, stepMoved}

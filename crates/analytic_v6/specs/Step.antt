@@ -10,7 +10,7 @@ use Rattle.domain.specs.Doubles.{zero64}
 use Rattle.domain.specs.Limits.{zero32, dayGood}
 use Rattle.reads.specs.Reads.{ratingGood}
 use Rattle.weights.specs.Weights.{weightsRefusal}
-use Rattle.branches.specs.Params.{paramsDef}
+use Rattle.parameters.specs.Params.{paramsDef}
 use Rattle.forward.specs.Step.{noState, isFirst, stepDef}
 use Rattle.branches.specs.declared.stability.Branch.the-variants.{Padding}
 use Rattle.branches.specs.declared.stability.State.{State}

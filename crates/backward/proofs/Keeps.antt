@@ -10,22 +10,22 @@ use borrow.Author.Tests.{eqb-false}
 use Rattle.domain.specs.Doubles.{zero64}
 use Rattle.domain.specs.Limits.{two, four}
 use Rattle.weights.specs.Weights.{_!_}
-use Rattle.branches.specs.Params.{initDifficulty}
+use Rattle.parameters.specs.Params.{initDifficulty}
 use Rattle.forward.specs.Reads.{among, firstWeights, common, successWeights}
-use Rattle.branches.specs.declared.curve.CurveCache.{CurveCache}
-use Rattle.branches.specs.declared.params.RuntimeParams.{RuntimeParams}
+use Rattle.curves.specs.declared.CurveCache.{CurveCache}
+use Rattle.parameters.specs.declared.RuntimeParams.{RuntimeParams}
 use Rattle.branches.specs.declared.stability.Branch.{Branch}
 use Rattle.branches.specs.declared.stability.Branch.the-variants.{Padding, First, SameDay, Lapse, Success}
 use Rattle.forward.specs.declared.step.StepRecord.{StepRecord}
-use Rattle.slots.specs.Curve.{curveSlots}
-use Rattle.slots.specs.Difficulty.{meanGrad, partsOf, difficultySlots, difficultyMoved, initSlots, initMoved}
+use Rattle.curve_gradients.specs.Curve.{curveSlots}
+use Rattle.difficulty_gradients.specs.Difficulty.{meanGrad, partsOf, difficultySlots, difficultyMoved, initSlots, initMoved}
 use Rattle.backward.specs.Moves.{slotsOf, mayMove}
 use Rattle.slots.specs.Slots.{bump, bumpIf}
 use Rattle.gradients.specs.Stability.{shortSlots, shortMoved}
 use Rattle.failure_gradients.specs.Failure.{floorSlots, lapseSlots, failureMoved}
 use Rattle.success_gradients.specs.Success.{successSlots, successMoved}
 use Rattle.backward.specs.Step.{carried, firstFlow, flowDef, preGrad, firstMoved, shortAll, lapseAll, successAll, flowMoved, stepMoved}
-use Rattle.slots.specs.declared.difficulty.DifficultyParts.{DifficultyParts}
+use Rattle.difficulty_gradients.specs.declared.DifficultyParts.{DifficultyParts}
 use Rattle.failure_gradients.specs.declared.LapseParts.{LapseParts}
 use Rattle.success_gradients.specs.declared.SuccessParts.{SuccessParts}
 

@@ -7,14 +7,14 @@ use Rattle.domain.specs.Floats.{maxDef}
 use Rattle.domain.specs.Limits.{zero32, S_MIN, S_MAX, D_MIN, D_MAX}
 use Rattle.weights.specs.Weights.{_!_}
 use Rattle.domain.specs.Doubles.{_+ᵈ_, _*ᵈ_, zero64}
-use Rattle.branches.specs.Curve.{baseDef}
-use Rattle.branches.specs.declared.curve.CurveCache.{CurveCache}
-use Rattle.branches.specs.declared.params.RuntimeParams.{RuntimeParams}
+use Rattle.curves.specs.Curve.{baseDef}
+use Rattle.curves.specs.declared.CurveCache.{CurveCache}
+use Rattle.parameters.specs.declared.RuntimeParams.{RuntimeParams}
 use Rattle.branches.specs.declared.stability.Branch.{Branch}
 use Rattle.branches.specs.declared.stability.Branch.the-variants.{Padding, First, SameDay, Lapse, Success}
 use Rattle.forward.specs.declared.step.StepRecord.{StepRecord}
-use Rattle.slots.specs.Curve.{curveBack, curveSlots}
-use Rattle.slots.specs.Difficulty.{difficultyBack, difficultyMoved, initMoved}
+use Rattle.curve_gradients.specs.Curve.{curveBack, curveSlots}
+use Rattle.difficulty_gradients.specs.Difficulty.{difficultyBack, difficultyMoved, initMoved}
 use Rattle.slots.specs.Slots.{clampGrad}
 use Rattle.gradients.specs.Stability.{shortBack, shortMoved}
 use Rattle.failure_gradients.specs.Failure.{failureBack, failureMoved}

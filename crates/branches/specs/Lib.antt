@@ -1,3 +1,1 @@
-pub mod Curve
-pub mod Params
 pub mod Stability

@@ -1,5 +1,3 @@
-// analytic_v6.rs, forward: the run's parameters (`params`), the curve (`curve`), and the three ways in which a review moves
-// the stability (`stability`). Each function takes the weights that it reads, and no more.
-pub mod curve;
-pub mod params;
+// analytic_v6.rs, forward: the three ways in which a review moves the stability. Each function takes the weights that it
+// reads, and no more.
 pub mod stability;

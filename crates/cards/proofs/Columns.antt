@@ -9,10 +9,10 @@ use lib.Ieee.{Float}
 use lib.ListN.{getD, length, set}
 use lib.Seq.{getD-set-other}
 use Rattle.domain.specs.Doubles.{zero64}
-use Rattle.branches.specs.declared.params.RuntimeParams.{RuntimeParams}
+use Rattle.parameters.specs.declared.RuntimeParams.{RuntimeParams}
 use Rattle.tables.specs.Batch.{Cards, lengthAt, at}
 use Rattle.records.specs.Records.{roomDef, loadDef}
-use Rattle.passes.specs.Back.{startGrad, backDef}
+use Rattle.reverse_walk.specs.Back.{startGrad, backDef}
 use Rattle.ends.specs.Ends.{lastLoss, lastGrad, lastSlots}
 use Rattle.passes.specs.Path.{recordAt, storedDef, scoreAt, runAt, gradsDef}
 use Rattle.passes.specs.declared.scored.Run.{Run}

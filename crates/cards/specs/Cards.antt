@@ -6,13 +6,13 @@ use lib.Dec.{eqb}
 use lib.Ieee.{Float}
 use lib.ListN.{length, set}
 use Rattle.domain.specs.Doubles.{zero64}
-use Rattle.branches.specs.Params.{paramsDef}
-use Rattle.branches.specs.declared.params.RuntimeParams.{RuntimeParams}
+use Rattle.parameters.specs.Params.{paramsDef}
+use Rattle.parameters.specs.declared.RuntimeParams.{RuntimeParams}
 use Rattle.tables.specs.Batch.{Cards, lengthAt, at}
 use Rattle.tables.specs.Columns.{total, through}
 use Rattle.checks.specs.Refusals.{cardLossRefusal, cardGradRefusal}
 use Rattle.records.specs.Records.{roomDef}
-use Rattle.passes.specs.Back.{startGrad, backDef}
+use Rattle.reverse_walk.specs.Back.{startGrad, backDef}
 use Rattle.ends.specs.Ends.{lastLoss, lastGrad, lastSlots, answer}
 use Rattle.passes.specs.Path.{stateAt, recordAt, storedDef, scoreAt, lossAt, gradsDef}
 use Rattle.ends.specs.declared.Loss.{Loss}

@@ -9,7 +9,7 @@ use Rattle.reads.specs.Reads.{check, first}
 use Rattle.weights.specs.Weights.{weightsRefusal}
 use Rattle.tables.specs.Batch.{Table, Prefixes, Cards}
 use Rattle.faults.specs.Faults.{prefixFault, cardFault}
-use Rattle.checks.specs.Sizes.{longestDef, prefixSized, cardSized}
+use Rattle.sizes.specs.Sizes.{longestDef, prefixSized, cardSized}
 
 -- 'a loss-only entry .. lends no records, step gradients or slots, so it never gives 4 or 5'
 unfoldable pub lossRefusal : (w : List Float) (sized : Bool) (fault : ℕ) → ℕ

@@ -2,8 +2,8 @@
 ghost use mathlib.Core.Path.{_≡_};
 ghost use Rattle.tables.specs.Batch.{cardsOf};
 ghost use Rattle.checks.specs.Refusals.{cardLossRefusal};
-use crate::sizes::card_sized;
 use faults::card::card_fault;
+use sizes::card_sized;
 use weights::weights_refusal;
 
 // 1, 2, 3, then the first fault.

@@ -3,4 +3,3 @@ pub mod card_grad;
 pub mod card_loss;
 pub mod prefix_grad;
 pub mod prefix_loss;
-pub mod sizes;

@@ -2,8 +2,8 @@
 ghost use mathlib.Core.Path.{_≡_};
 ghost use Rattle.tables.specs.Batch.{prefixesOf};
 ghost use Rattle.checks.specs.Refusals.{prefixLossRefusal};
-use crate::sizes::prefix_sized;
 use faults::prefix::prefix_fault;
+use sizes::prefix_sized;
 use weights::weights_refusal;
 
 // 1, 2, 3, then the first fault.

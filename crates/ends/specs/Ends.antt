@@ -7,11 +7,11 @@ use lib.Ieee.{Float, eq}
 use Rattle.domain.specs.Floats.{clampDef}
 use Rattle.domain.specs.Limits.{zero32, S_MIN, S_MAX}
 use Rattle.reads.specs.Reads.{cardLabel}
-use Rattle.branches.specs.Curve.{curveForward}
+use Rattle.curves.specs.Curve.{curveForward}
 use Rattle.domain.specs.Doubles.{_+ᵈ_, _*ᵈ_, zero64}
-use Rattle.branches.specs.declared.curve.CurveCache.{CurveCache}
-use Rattle.branches.specs.declared.params.RuntimeParams.{RuntimeParams}
-use Rattle.slots.specs.Curve.{curveBack, curveSlots}
+use Rattle.curves.specs.declared.CurveCache.{CurveCache}
+use Rattle.parameters.specs.declared.RuntimeParams.{RuntimeParams}
+use Rattle.curve_gradients.specs.Curve.{curveBack, curveSlots}
 use Rattle.slots.specs.Slots.{clampGrad}
 use Rattle.scores.specs.Scores.{scoreDef}
 use Rattle.scores.specs.declared.Score.{Score}

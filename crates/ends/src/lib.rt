@@ -1,11 +1,11 @@
 // A column's last scored review: its loss, and the gradient by the stability before it.
 ghost use mathlib.Core.Path.{_≡_};
 ghost use Rattle.ends.specs.Ends.{targetLoss, targetGrad, targetSlots, lastLoss, lastGrad, lastSlots};
-use branches::curve::curve_forward;
-use branches::params::RuntimeParams;
+use curve_gradients::curve_backward;
+use curves::curve_forward;
 use domain::limits::clamp_stability;
+use parameters::RuntimeParams;
 use scores::bce_loss_and_grad_r;
-use slots::curve::curve_backward;
 use slots::slots::stability_grad;
 
 // What a loss call answers: the number of a refusal, 0 where there is none; the loss, +0.0 where there is one.

@@ -2,12 +2,12 @@
 ghost use mathlib.Core.Path.{_≡_};
 ghost use Rattle.kernels.specs.Calls.{ln64};
 ghost use Rattle.failure_gradients.specs.Failure.{floorGrads, floorSlots, lapseParts, lapseSlots, lapseGrads, failureBack, failureMoved};
-use branches::params::RuntimeParams;
 use branches::stability::State;
 use exp::exp_f64;
 use gradients::stability::Grads;
 use gradients::stability::no_grads;
 use ln_pow::both::pow_ln_f64;
+use parameters::RuntimeParams;
 use slots::slots::add;
 use std::num::f32_to_f64_with_nan;
 

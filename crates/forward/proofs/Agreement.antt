@@ -9,8 +9,8 @@ use borrow.Author.Tests.{eq-eqb}
 use mathlib.Core.Bool.{or-assoc}
 use Rattle.domain.specs.Limits.{zero32, one, two, four}
 use Rattle.weights.specs.Weights.{_!_}
-use Rattle.branches.specs.Curve.{curveForward}
-use Rattle.branches.specs.Params.{curveFactor, paramsDef}
+use Rattle.curves.specs.Curve.{curveForward}
+use Rattle.parameters.specs.Params.{curveFactor, paramsDef}
 use Rattle.forward.specs.Reads.{among, firstWeights, common, successWeights, reviewReads, stepReads, Agree}
 use Rattle.branches.specs.Stability.{successDef}
 use Rattle.forward.specs.Step.{clampState, ratingNumber, isFirst, moveDef, firstDef, reviewDef, stepDef}

@@ -6,10 +6,10 @@ use lib.Ieee.{Float, neg, eq}
 use Rattle.domain.specs.Floats.{_+ᶠ_, _-ᶠ_, _*ᶠ_, _/ᶠ_, clampDef}
 use Rattle.domain.specs.Limits.{zero32, one, two, three, nine, ten, S_MIN, S_MAX, D_MIN, D_MAX}
 use Rattle.weights.specs.Weights.{_!_}
-use Rattle.branches.specs.Curve.{curveForward}
-use Rattle.branches.specs.Params.{initDifficulty}
+use Rattle.curves.specs.Curve.{curveForward}
+use Rattle.parameters.specs.Params.{initDifficulty}
 use Rattle.branches.specs.Stability.{shortDef, lapseDef, successDef}
-use Rattle.branches.specs.declared.params.RuntimeParams.{RuntimeParams}
+use Rattle.parameters.specs.declared.RuntimeParams.{RuntimeParams}
 use Rattle.branches.specs.declared.stability.Branch.the-variants.{Padding, First}
 use Rattle.branches.specs.declared.stability.Move.{Move}
 use Rattle.branches.specs.declared.stability.State.{State}

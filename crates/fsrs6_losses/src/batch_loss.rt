@@ -4,7 +4,7 @@ ghost use Rattle.prefixes.specs.Prefixes.{batchLoss};
 ghost use Rattle.tables.specs.Batch.{prefixesOf};
 ghost use Rattle.places.specs.Places.{written};
 use places::put_f64;
-use prefixes::loss::batch_loss;
+use prefix_losses::batch_loss;
 
 #[no_mangle]
 pub extern "C" fn fsrs_batch_loss(

@@ -3,7 +3,7 @@ ghost use mathlib.Core.Path.{_≡_};
 ghost use Rattle.cards.specs.Cards.{cardsLoss};
 ghost use Rattle.tables.specs.Batch.{cardsOf};
 ghost use Rattle.places.specs.Places.{written};
-use cards::loss::card_loss;
+use card_losses::card_loss;
 use places::put_f64;
 
 #[no_mangle]

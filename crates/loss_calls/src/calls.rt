@@ -2,11 +2,11 @@
 use crate::words::length_at;
 use crate::words::set_lengths;
 use crate::words::set_singles;
+use card_losses::card_loss;
 use cards::grad::card_loss_and_grad;
-use cards::loss::card_loss;
 use ends::Loss;
+use prefix_losses::batch_loss;
 use prefixes::grad::batch_loss_and_grad;
-use prefixes::loss::batch_loss;
 use vectors::patterns::u32_of;
 
 // Where a call's slices stand, and what follows them.

@@ -11,14 +11,14 @@ use lib.Ieee.{Float}
 use lib.ListN.{getD, length, length-set, set}
 use lib.Seq.{getD-set-same, getD-set-other}
 use Rattle.domain.specs.Doubles.{zero64}
-use Rattle.branches.specs.declared.params.RuntimeParams.{RuntimeParams}
+use Rattle.parameters.specs.declared.RuntimeParams.{RuntimeParams}
 use Rattle.forward.specs.declared.step.StepRecord.{StepRecord}
 use Rattle.records.specs.Records.{roomDef, storeDef, loadDef}
 use Rattle.records.proofs.ReadBack.{step-read}
 use Rattle.records.proofs.Stored.{stored-length, stored-read, others-kept}
 use Rattle.backward.specs.Step.{stepGrad, stepMoved}
 use Rattle.backward.specs.declared.step.StateGrad.{StateGrad}
-use Rattle.passes.specs.Back.{backDef}
+use Rattle.reverse_walk.specs.Back.{backDef}
 use Rattle.passes.specs.Path.{stepAt, stateAt, recordAt, storedDef, scoreAt, gradsDef}
 
 module _ (p : RuntimeParams) (days ratings : List Float) (columns column : ℕ) where

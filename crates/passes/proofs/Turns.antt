@@ -1,15 +1,13 @@
--- One more row of a column, forward and backward. Assumes nothing.
-use Prim.Native.Nat.{ℕ, zero, suc, _+_, _-_, _<_}
+-- One more row of a column. Assumes nothing.
+use Prim.Native.Nat.{ℕ, _+_}
 use mathlib.Core.List.{List}
-use mathlib.Core.Path.{_≡_, refl, sym, ap, _∙_}
-use native.Mathlib.Nat.{not-suc-le-zero, suc-ne-zero}
+use mathlib.Core.Path.{_≡_, ap, _∙_}
 use native.Mathlib.Numerals.{add-one}
-use native.Mathlib.Omega.{arith}
 use lib.Ieee.{Float}
 use lib.ListN.{set}
 use Rattle.weights.specs.Weights.{_!_}
 use Rattle.domain.specs.Doubles.{_+ᵈ_}
-use Rattle.branches.specs.declared.params.RuntimeParams.{RuntimeParams}
+use Rattle.parameters.specs.declared.RuntimeParams.{RuntimeParams}
 use Rattle.branches.specs.declared.stability.State.{State}
 use Rattle.tables.specs.Tables.{cell}
 use Rattle.forward.specs.Step.{stepDef}
@@ -17,9 +15,6 @@ use Rattle.forward.specs.declared.step.StepRecord.{StepRecord}
 use Rattle.forward.specs.declared.step.Stepped.{Stepped}
 use Rattle.records.specs.Records.{storeDef}
 use Rattle.scores.specs.declared.Score.{Score}
-use Rattle.backward.specs.Step.{stepGrad, stepMoved}
-use Rattle.backward.specs.declared.step.StateGrad.{StateGrad}
-use Rattle.passes.specs.Back.{backDef}
 use Rattle.passes.specs.Path.{rowScore, stepAt, stateAt, recordAt, storedDef, scoreAt, lossAt, gradsDef}
 
 module _ (p : RuntimeParams) (days ratings : List Float) (columns column : ℕ) where
@@ -64,24 +59,3 @@ module _ (p : RuntimeParams) (days ratings : List Float) (columns column : ℕ) 
         set xs k (s .«g_r») ≡ gradsDef p days ratings columns column labels weights (k + 1) start
     unfolding gradsDef
     next-grads k start xs s e h = rw (add-one k, e, h)
-
-module _ (p : RuntimeParams) (records : ℕ → StepRecord) (step-grads : ℕ → Float) where
-  pred : (i : ℕ) → suc i - 1 ≡ i
-  pred i = omega arith
-
-  step-back : (i : ℕ) (g : StateGrad) (gw : List Float) → 0 < i →
-      backDef p records step-grads (i - 1) (stepGrad p (records (i - 1)) (g .s) (g .d) (step-grads (i - 1))) (stepMoved p (records (i - 1)) (g .s) (g .d) (step-grads (i - 1)) gw) ≡
-      backDef p records step-grads i g gw
-  unfolding backDef
-  step-back zero g gw h = absurd (not-suc-le-zero h)
-  step-back (suc i) g gw h = rw (pred i)
-
-  pub back-turn : (i : ℕ) (g g′ : StateGrad) (gw gw′ whole : List Float) (c : StepRecord) (r : Float) → 0 < i → c ≡ records (i - 1) →
-      r ≡ step-grads (i - 1) → g′ ≡ stepGrad p c (g .s) (g .d) r → gw′ ≡ stepMoved p c (g .s) (g .d) r gw →
-      backDef p records step-grads i g gw ≡ whole → backDef p records step-grads (i - 1) g′ gw′ ≡ whole
-  back-turn i g g′ gw gw′ whole c r l ec er eg em e = rw (eg, em, ec, er) (step-back i g gw l ∙ e)
-
-  pub back-done : (i : ℕ) (g : StateGrad) (gw whole : List Float) → i ≡ 0 → backDef p records step-grads i g gw ≡ whole → gw ≡ whole
-  unfolding backDef
-  back-done zero g gw whole e h = h
-  back-done (suc i) g gw whole e h = absurd (suc-ne-zero i e)

@@ -7,7 +7,7 @@ use lib.Ieee.{Float}
 use lib.ListN.{set}
 use Rattle.weights.specs.Weights.{_!_}
 use Rattle.domain.specs.Doubles.{_+ᵈ_, zero64}
-use Rattle.branches.specs.declared.params.RuntimeParams.{RuntimeParams}
+use Rattle.parameters.specs.declared.RuntimeParams.{RuntimeParams}
 use Rattle.branches.specs.declared.stability.State.{State}
 use Rattle.tables.specs.Tables.{cell}
 use Rattle.forward.specs.Step.{noState, stepDef}

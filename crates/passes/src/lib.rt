@@ -1,6 +1,3 @@
-// One column of a batch, forward over its rows and backward over its records.
-pub mod back;
+// One column of a batch, forward over its rows: the states alone (`path`), and the scores of a card (`scored`).
 pub mod path;
 pub mod scored;
-pub mod scored_stored;
-pub mod stored;

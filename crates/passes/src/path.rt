@@ -1,9 +1,9 @@
 // The state's path down a column, from (0, 0).
 ghost use mathlib.Core.Path.{_≡_};
 ghost use Rattle.passes.specs.Path.{stateAt};
-use branches::params::RuntimeParams;
 use branches::stability::State;
 use forward::step::step_forward;
+use parameters::RuntimeParams;
 use tables::cell_of;
 use tables::read;
 

@@ -1,9 +1,9 @@
 // The path of a card, whose rows are scored on the way, each by the state before its review.
 ghost use mathlib.Core.Path.{_≡_};
 ghost use Rattle.passes.specs.Path.{rowScore, runAt};
-use branches::params::RuntimeParams;
 use branches::stability::State;
 use forward::step::step_forward;
+use parameters::RuntimeParams;
 use scores::Score;
 use scores::bce_loss_and_grad_r;
 use tables::cell_of;

@@ -6,11 +6,11 @@ use lib.Ieee.{Float}
 use lib.ListN.{getD, length}
 use Rattle.domain.specs.Doubles.{zero64}
 use Rattle.weights.specs.Weights.{_!_}
-use Rattle.branches.specs.declared.params.RuntimeParams.{RuntimeParams}
+use Rattle.parameters.specs.declared.RuntimeParams.{RuntimeParams}
 use Rattle.branches.specs.declared.stability.State.{State}
 use Rattle.tables.specs.Batch.{Prefixes, lengthAt}
 use Rattle.records.specs.Records.{roomDef, loadDef}
-use Rattle.passes.specs.Back.{startGrad, backDef}
+use Rattle.reverse_walk.specs.Back.{startGrad, backDef}
 use Rattle.ends.specs.Ends.{targetLoss, targetGrad, targetSlots}
 use Rattle.passes.specs.Path.{stateAt, recordAt, storedDef}
 use Rattle.ends.specs.declared.Ending.{Ending}

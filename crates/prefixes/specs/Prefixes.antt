@@ -7,13 +7,13 @@ use lib.Ieee.{Float}
 use lib.ListN.{length}
 use Rattle.weights.specs.Weights.{_!_}
 use Rattle.domain.specs.Doubles.{zero64}
-use Rattle.branches.specs.Params.{paramsDef}
-use Rattle.branches.specs.declared.params.RuntimeParams.{RuntimeParams}
+use Rattle.parameters.specs.Params.{paramsDef}
+use Rattle.parameters.specs.declared.RuntimeParams.{RuntimeParams}
 use Rattle.tables.specs.Batch.{Prefixes, lengthAt}
 use Rattle.tables.specs.Columns.{total, through}
 use Rattle.checks.specs.Refusals.{prefixLossRefusal, prefixGradRefusal}
 use Rattle.records.specs.Records.{roomDef}
-use Rattle.passes.specs.Back.{startGrad, backDef}
+use Rattle.reverse_walk.specs.Back.{startGrad, backDef}
 use Rattle.ends.specs.Ends.{targetLoss, targetGrad, targetSlots, answer}
 use Rattle.passes.specs.Path.{stateAt, recordAt, storedDef}
 use Rattle.ends.specs.declared.Loss.{Loss}

@@ -6,7 +6,7 @@ use lib.Ieee.{Float, eq, lt, ofBits}
 use Rattle.domain.specs.Limits.{zero32, one}
 use Rattle.weights.specs.Weights.{_!_}
 use Rattle.branches.specs.Stability.{shortDef, lapseMove, lapseDef, successDef}
-use Rattle.branches.specs.declared.params.RuntimeParams.{RuntimeParams}
+use Rattle.parameters.specs.declared.RuntimeParams.{RuntimeParams}
 use Rattle.branches.specs.declared.stability.Branch.{Branch}
 use Rattle.branches.specs.declared.stability.Branch.the-variants.{Padding, First, SameDay, Lapse, Success}
 use Rattle.branches.specs.declared.stability.Move.{Move}

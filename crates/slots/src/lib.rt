@@ -1,6 +1,4 @@
-// analytic_v6.rs, backward: the 21 slots (`slots`), and the reverse of the curve, the difficulty and a first review. Each
-// function takes the weights that it reads and adds to the slots that it may move, in the text's order, zero tests and
-// early returns included: these decide which slots keep their bits.
-pub mod curve;
-pub mod difficulty;
+// analytic_v6.rs, backward: adding to the 21 slots. The crates of the reverse that stand on this take the weights that they
+// read and add to the slots that they may move, in the text's order, zero tests and early returns included: these decide
+// which slots keep their bits.
 pub mod slots;

@@ -2,13 +2,13 @@
 ghost use mathlib.Core.Path.{_≡_};
 ghost use Rattle.kernels.specs.Calls.{ln64};
 ghost use Rattle.success_gradients.specs.Success.{successParts, successSlots, successGrads, successBack, successMoved};
-use branches::params::RuntimeParams;
 use branches::stability::State;
 use domain::floats::choose;
 use exp::exp_f64;
 use gradients::stability::Grads;
 use gradients::stability::no_grads;
 use ln_pow::both::pow_ln_f64;
+use parameters::RuntimeParams;
 use slots::slots::add;
 use slots::slots::add_if;
 use std::num::f32_to_f64_with_nan;
