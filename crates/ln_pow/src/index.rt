@@ -3,18 +3,15 @@ ghost use mathlib.Core.Path.{_≡_};
 ghost use Prim.Native.Nat.{_^_, _≤_, _<_};
 ghost use Rattle.kernels.specs.Core.{index};
 ghost use Rattle.kernels.specs.Steps.{Start};
+use starts::start_at;
 use table::entry_at;
 
-// From the 9 digits below the leading one: 256 times the binary logarithm, by a cubic that is at most one entry short for
-// any number with these digits, and never too far.
+// From the 9 digits below the leading one: at most one entry short for any number with these digits, and never too far.
 fn start_of(m: u64) -> u64
     requires { ⌜ (2 ^ 62 ≤ m) × (m < 2 ^ 63) ⌝ }
     ensures { λ r. ⌜ Start m r ⌝ }
 {
-    let k = (m >> 53) - 512;
-    let a = 77430 - k * 43;
-    let b = 95504896 - k * a;
-    (124802494 + k * b) >> 27
+    start_at(m >> 53) as u64
 }
 
 // The first entry that is m or more.

@@ -1,6 +1,6 @@
 // A fixed-point logarithm, in units of 2^-72: the table's step above the number, less what the number lies below it.
 ghost use mathlib.Core.Path.{_≡_};
-ghost use mathlib.Core.Bool.{false, true};
+ghost use mathlib.Core.Bool.{false, true, cond};
 ghost use Prim.Native.Nat.{_+_, _-_, _*_, _/_, _^_, _≤_, _<_};
 ghost use lib.Dec.{T};
 ghost use lib.IntN.{pos, negsuc};
@@ -76,14 +76,17 @@ fn below_f32(g: u64) -> u64
     scaled(g, term(0x8000_0000_0000_0000, g, c))
 }
 
-// a - b, or 0 where b is the larger.
+// a - b, or 0 where b is the larger: then alone the wrapped difference has its top digit set.
 fn less_of(a: Wide, b: Wide) -> Wide
+    requires { ⌜ (valueOf a < 2 ^ 127) × (valueOf b < 2 ^ 127) ⌝ }
     ensures { λ r. ⌜ valueOf r ≡ valueOf a - valueOf b ⌝ }
 {
-    if wide::less(a, b) {
-        return Wide { high: 0, low: 0 };
+    let d = wide::difference(a, b);
+    let high = d.high;
+    if high < 0x8000_0000_0000_0000 {
+        return d;
     }
-    wide::difference(a, b)
+    Wide { high: 0, low: 0 }
 }
 
 // w in words of 50 and 32 digits.
@@ -124,51 +127,74 @@ fn combine(k: i64, i: u64, l: u64) -> Log
     words(true, wide::sum(a, b))
 }
 
+// -ln(1 - g), by the terms that a double wants or by those that a single does.
+fn terms(double: bool, g: u64) -> u64
+    requires { ⌜ g ≤ 2 ^ 63 ⌝ }
+    ensures { λ r. ⌜ r ≡ below (cond double binary64 binary32) g ⌝ }
+{
+    if double {
+        return below_f64(g);
+    }
+    below_f32(g)
+}
+
+// The logarithm of m / 2^62 * 2^k. One function for both formats, so that the code is there once.
+fn log_at(m: u64, k: i64, double: bool) -> Log
+    requires { ⌜ (2 ^ 62 ≤ m) × (m < 2 ^ 63) × T (leZ (negsuc 1073) k) × T (leZ k (pos 1025)) ⌝ }
+    ensures { λ r. ⌜ Logged (logAt k (index m) (below (cond double binary64 binary32) (gap (index m) m))) r ⌝ }
+{
+    let i = index_of(m);
+    let l = terms(double, gap_of(m, i));
+    combine(k, i, l)
+}
+
 // The logarithm of digits * 2^places smallest doubles, 2^-1074.
-pub fn logarithm_f64(digits: u64, places: u64) -> Log
+fn log_units(digits: u64, places: u64, double: bool) -> Log
     requires { ⌜ (0 < digits) × (digits < 2 ^ 53) × (places < 2 ^ 11) ⌝ }
-    ensures { λ r. ⌜ Logged (logUnits binary64 digits places) r ⌝ }
+    ensures { λ r. ⌜ Logged (logUnits (cond double binary64 binary32) digits places) r ⌝ }
 {
     let z = wide::digits64(digits);
     let m = digits << (63 - z);
-    let i = index_of(m);
-    let l = below_f64(gap_of(m, i));
-    combine(exponent(z, places), i, l)
+    log_at(m, exponent(z, places), double)
 }
 
-pub fn logarithm_f32(digits: u64, places: u64) -> Log
-    requires { ⌜ (0 < digits) × (digits < 2 ^ 53) × (places < 2 ^ 11) ⌝ }
-    ensures { λ r. ⌜ Logged (logUnits binary32 digits places) r ⌝ }
-{
-    let z = wide::digits64(digits);
-    let m = digits << (63 - z);
-    let i = index_of(m);
-    let l = below_f32(gap_of(m, i));
-    combine(exponent(z, places), i, l)
-}
-
-// Whether x has a logarithm: neither a NaN, nor an infinity, nor 0, nor below it.
+// Whether x has a logarithm: neither a NaN, nor an infinity, nor 0, nor below it. The largest double is asked for, since
+// LLVM makes a slow test of a comparison with infinity.
 pub fn has_log(x: f64) -> bool
     ensures { λ r. ⌜ r ≡ positive x ⌝ }
 {
-    let end = f64::from_bits(0x7ff0_0000_0000_0000);
-    0.0 < x && x < end
+    let most = f64::from_bits(0x7fef_ffff_ffff_ffff);
+    0.0 < x && x <= most
 }
 
-// The logarithm of x, by the terms that a double wants.
+// The logarithm of x. A normal x has its digits and its exponent in its pattern, and only a smaller one is measured.
+fn log_of(x: f64, double: bool) -> Log
+    requires { ⌜ T (positive x) ⌝ }
+    ensures { λ r. ⌜ Logged (logOf (cond double binary64 binary32) x) r ⌝ }
+{
+    let b = f64::to_bits(x);
+    let field = b >> 52;
+    if field == 0 {
+        let u = measure(x);
+        return log_units(u.digits, u.places, double);
+    }
+    let m = 0x4000_0000_0000_0000 + b % 0x10_0000_0000_0000 * 1024;
+    let k = field as i64 - 1023;
+    log_at(m, k, double)
+}
+
+// By the terms that a double wants.
 pub fn log_f64(x: f64) -> Log
     requires { ⌜ T (positive x) ⌝ }
     ensures { λ r. ⌜ Logged (logOf binary64 x) r ⌝ }
 {
-    let u = measure(x);
-    logarithm_f64(u.digits, u.places)
+    log_of(x, true)
 }
 
-// The same, by those that a single wants.
+// By those that a single wants.
 pub fn log_f32(x: f64) -> Log
     requires { ⌜ T (positive x) ⌝ }
     ensures { λ r. ⌜ Logged (logOf binary32 x) r ⌝ }
 {
-    let u = measure(x);
-    logarithm_f32(u.digits, u.places)
+    log_of(x, false)
 }

@@ -26,7 +26,7 @@ use Rattle.ln_pow.specs.declared.logarithm.Log.{Log}
 abbrev pub Near : ℤ → Type 0
 Near k = T (leZ (negsuc 1073) k) × T (leZ k (pos 1025))
 
-near : (n : ℕ) → 0 < n → n ≤ 2100 → Near (minus n 1075)
+pub near : (n : ℕ) → 0 < n → n ≤ 2100 → Near (minus n 1075)
 near n a b = go (leb 1075 n) (nleb→lt 1075 n)
   where
     go : (t : Bool) → (T (not t) → n < 1075) → Near (cond t (pos (n - 1075)) (negsuc (1075 - suc n)))
@@ -40,7 +40,7 @@ exponent-near n k a b e =
 
 -- ---- from zero on
 module _ (k : ℤ) (s : SFits w64 k) where
-  word : read k ≡ k
+  pub word : read k ≡ k
   word = toZ-ofZ s
 
   abbrev pub Plain : ℤ → Type 0
@@ -77,6 +77,19 @@ up-lt n i l a b = omega arith
 down-lt : (n i l : ℕ) → n ≤ 1074 → i ≤ 256 → l < 2 ^ 64 → (n * 256 - i) * N + l * 256 < 2 ^ 82
 down-lt n i l a b c = omega arith
 
+-- each far below 2 ^ 127
+pub steps-short : (n i : ℕ) (a : Wide) → n ≤ 1025 → i ≤ 256 → valueOf a ≡ (n * 256 + i) * N → valueOf a < 2 ^ 127
+steps-short n i a x y e = lt-of-lt-of-le (subst (λ (v : ℕ). v < 2 ^ 83) (sym e) (short n i x y)) (lit≤ tt)
+  where
+    short : (n i : ℕ) → n ≤ 1025 → i ≤ 256 → (n * 256 + i) * N < 2 ^ 83
+    short n i a b = omega arith
+
+pub rest-short : (l : ℕ) (b : Wide) → l < 2 ^ 64 → valueOf b ≡ l * 256 → valueOf b < 2 ^ 127
+rest-short l b h e = lt-of-lt-of-le (subst (λ (v : ℕ). v < 2 ^ 72) (sym e) (short l h)) (lit≤ tt)
+  where
+    short : (l : ℕ) → l < 2 ^ 64 → l * 256 < 2 ^ 72
+    short l h = omega arith
+
 module _ (k : ℤ) (n i l : ℕ) (a b : Wide) (hb : valueOf b ≡ l * 256) where
   module _ (e : k ≡ pos n) (ha : valueOf a ≡ (n * 256 + i) * N) (d : Wide) (hd : valueOf d ≡ valueOf a - valueOf b) where
     up-value : valueOf d ≡ (256 * n + i) * N - 256 * l
@@ -104,7 +117,12 @@ module _ (k : ℤ) (n i l : ℕ) (a b : Wide) (hb : valueOf b ≡ l * 256) where
     pub down-log : (r : Log) → Logged (record { negative = true; mag = valueOf d }) r → Logged (logAt k i l) r
     down-log r h = subst (λ (w : ℤ). Logged (logAt w i l) r) (sym e) (subst (λ (v : ℕ). Logged (record { negative = true; mag = v }) r) (down-value ∙ same) h)
 
--- ---- the whole of it, of d with z digits
+-- ---- the whole of it, of m with the exponent k
+pub at-is : (f : Format) (m i g l : ℕ) (j k : ℤ) (r : Log) → i ≡ index m → g ≡ gap i m → l ≡ below f g → j ≡ k → Logged (logAt j i l) r → Logged (logAt k (index m) (below f (gap (index m) m))) r
+at-is f m i g l j k r a b c q t =
+    subst (λ (x : Fixed). Logged x r) (ap (λ (x : ℤ). logAt x i l) q ∙ ap₂ (λ (x y : ℕ). logAt k x y) a (c ∙ ap (below f) (b ∙ ap (λ (x : ℕ). gap x m) a))) t
+
+-- and of d with z digits
 abbrev shifted : (d z : ℕ) → ℕ
 shifted d z = d * 2 ^ (63 - z) % 2 ^ 64
 
@@ -124,10 +142,9 @@ module _ (d z : ℕ) (p : 0 < d) (h : d < 2 ^ 53) (e : z ≡ size d) where
   pub shifted-range : (2 ^ 62 ≤ shifted d z) × (shifted d z < 2 ^ 63)
   shifted-range = subst (λ (x : ℕ). (2 ^ 62 ≤ x) × (x < 2 ^ 63)) (sym shifted-is) (normalised-ge d p short, normalised-lt d short)
 
-  pub log-is : (f : Format) (places i g l : ℕ) (k : ℤ) (r : Log) → i ≡ index (shifted d z) → g ≡ gap i (shifted d z) → l ≡ below f g → k ≡ minus (places + z) 1075
-      → Logged (logAt k i l) r → Logged (logUnits f d places) r
+  pub log-is : (f : Format) (places : ℕ) (k : ℤ) (r : Log) → k ≡ minus (places + z) 1075
+      → Logged (logAt k (index (shifted d z)) (below f (gap (index (shifted d z)) (shifted d z)))) r → Logged (logUnits f d places) r
   unfolding logUnits
-  log-is f places i g l k r a b c q t =
-      let ei : i ≡ index (moved d) = a ∙ ap index shifted-is in
-      let eg : g ≡ gap (index (moved d)) (moved d) = b ∙ ap₂ gap ei shifted-is in
-      subst (λ (x : Fixed). Logged x r) (ap (λ (x : ℤ). logAt x i l) (q ∙ ap (λ (x : ℕ). minus (places + x) 1075) e) ∙ ap₂ (λ (x y : ℕ). logAt (minus (places + size d) 1075) x y) ei (c ∙ ap (below f) eg)) t
+  log-is f places k r q t =
+      subst (λ (x : Fixed). Logged x r)
+      (ap₂ (λ (x : ℤ) (m : ℕ). logAt x (index m) (below f (gap (index m) m))) (q ∙ ap (λ (x : ℕ). minus (places + x) 1075) e) shifted-is) t

@@ -1,25 +1,29 @@
 -- A positive double's logarithm is that of its digits and places: both give the same significand and the same exponent. Assumes nothing.
 use mathlib.Core.Path.{_≡_, refl, sym, ap, ap₂, _∙_, subst}
 use mathlib.Core.Bool.{Bool, true, false, not, cond, _&&_, true≢false, false≢true}
-use Prim.Native.Nat.{ℕ, zero, suc, _+_, _-_, _*_, _%_, _^_, _≤_, _<_}
-use native.Mathlib.Nat.{le-trans, le-of-eq, le-antisymm, lt-of-le-of-lt, lt-of-lt-of-le, lt-irrefl, mul-one, mul-assoc, mul-comm, mul-left-comm, mul-le-mul-right, mul-pos, eq-of-mul-eq-mul-right, sub-zero, zero-lt-suc}
+use Prim.Native.Nat.{ℕ, zero, suc, _+_, _-_, _*_, _/_, _%_, _^_, _≤_, _<_}
+use native.Mathlib.Nat.{le-add-right, mod-lt, mod-eq-of-lt, le-trans, le-of-eq, le-of-lt, le-antisymm, lt-of-le-of-lt, lt-of-lt-of-le, lt-irrefl, mul-one, mul-assoc, mul-comm, mul-left-comm, mul-le-mul, mul-le-mul-right, lt-of-mul-lt-mul-right, mul-pos, eq-of-mul-eq-mul-right, sub-zero, zero-lt-suc}
 use native.Mathlib.Omega.{arith}
-use borrow.Author.Tests.{ltb-true, ltb-false, lt-ltb}
-use lib.Dec.{T, eqb, leb, ltb, leb·zero, leb→le, nleb→lt, ltb→lt, lit≤, lit<}
+use borrow.Author.Tests.{ltb-true, ltb-false, lt-ltb, leb-false, ne-eqb}
+use lib.Dec.{T, eqb, leb, ltb, leb·zero, leb→le, nleb→lt, ltb→lt, lt→ltb, lit≤, lit<}
 use lib.IntN.{ℤ, pos, negsuc, subℕ}
-use lib.Pow.{pow-pos, pow-add, shl-lt}
-use lib.Ieee.{Float, nan, inf, fin, Format, binary64, size, up, down, minus, lt, fits}
+use lib.Pow.{pow-pos, pow-mono, pow-add, shl-lt}
+use lib.Ieee.{Float, nan, inf, fin, Format, binary64, size, up, down, minus, lt, le, fits, isNan, toBits}
+use lib.Ieee.Bits.{is-true}
 use lib.Ieee.Digits.{size-lt, size-le, size-reaches}
 use lib.Ieee.Fits.{and-l, and-r, up-pos}
-use lib.Ieee.Positive.{positive, positive-finite}
+use lib.Ieee.Positive.{positive, positive-finite, cross→le}
 use Rattle.rounding.proofs.Pattern.{pow-lt-back}
 use Rattle.rounding.proofs.Place.{size-pos}
-use Rattle.parts.specs.Units.{unitsDef}
+use Rattle.parts.specs.Units.{splitDef, unitsDef}
 use Rattle.parts.specs.declared.units.Units.{Units}
-use Rattle.parts.proofs.units.Value.{measured, digits-lt, places-lt, digits-pos}
-use Rattle.kernels.specs.Core.{index, gap, below, logAt, moved, logarithm}
+use Rattle.parts.proofs.units.Value.{measured, digits-lt, places-lt, negative-is, digits-pos}
+use Rattle.kernels.specs.Core.{Fixed, index, gap, below, logAt, moved, logarithm}
 use Rattle.kernels.specs.Steps.{logUnits, logOf}
 use Rattle.rounding.proofs.Exponent.{sub-minus}
+use Rattle.ln_pow.specs.Steps.{Logged}
+use Rattle.ln_pow.specs.declared.logarithm.Log.{Log}
+use Rattle.ln_pow.proofs.logarithm.Signed.{Near, near}
 
 -- ---- the size of a shifted number
 size-shift : (n k : ℕ) → 0 < n → size (n * 2 ^ k) ≡ size n + k
@@ -108,20 +112,22 @@ same-log f a d p (negsuc k) pa ha pd hd h =
     place : (s t k p : ℕ) → 0 < s → s + 1074 ≡ t + (p + suc k) → s - 1 + 1075 ≡ p + t + suc k
     place s t k p h e = omega arith
 
-short : (m : ℕ) (e : ℤ) → T (fits binary64 (fin false (suc m) e)) → suc m < 2 ^ 53
-unfolding fits
-short m e h =
-    let a = eqb (suc m % 2) 1 in
-    let b = ltb (suc m) (2 ^ 53) in
-    let c = leb (down e) (2 ^ 1074) in
-    let d = ltb (suc m * up e) (2 ^ 1024 * down e) in
-    ltb→lt (suc m) (2 ^ 53) (and-r a b (and-l (a && b) c (and-l (a && b && c) d h)))
+-- what it takes to fit
+module _ (m : ℕ) (e : ℤ) (h : T (fits binary64 (fin false (suc m) e))) where
+  parts : (suc m < 2 ^ 53) × (suc m * up e < 2 ^ 1024 * down e)
+  unfolding fits
+  parts =
+      let a = eqb (suc m % 2) 1 in
+      let b = ltb (suc m) (2 ^ 53) in
+      let c = leb (down e) (2 ^ 1074) in
+      let d = ltb (suc m * up e) (2 ^ 1024 * down e) in
+      (ltb→lt (suc m) (2 ^ 53) (and-r a b (and-l (a && b) c (and-l (a && b && c) d h))), ltb→lt (suc m * up e) (2 ^ 1024 * down e) (and-r (a && b && c) d h))
 
 -- the law for a float's digits and places
 pub units-log : (f : Format) (m : ℕ) (e : ℤ) → T (fits binary64 (fin false (suc m) e))
     → logarithm f (suc m) e ≡ logUnits f (unitsDef binary64 (fin false (suc m) e) .digits) (unitsDef binary64 (fin false (suc m) e) .places)
 units-log f m e h =
-    same-log f (suc m) (unitsDef binary64 (fin false (suc m) e) .digits) (unitsDef binary64 (fin false (suc m) e) .places) e (zero-lt-suc m) (lt-of-lt-of-le (short m e h) (lit≤ tt)) (digits-pos binary64 false m e h)
+    same-log f (suc m) (unitsDef binary64 (fin false (suc m) e) .digits) (unitsDef binary64 (fin false (suc m) e) .places) e (zero-lt-suc m) (lt-of-lt-of-le (parts m e h .0) (lit≤ tt)) (digits-pos binary64 false m e h)
     (lt-of-lt-of-le (digits-lt binary64 (fin false (suc m) e) h tt) (lit≤ tt)) (measured binary64 (fin false (suc m) e) h tt .1)
 
 -- ---- a float's logarithm from what `measure` gives
@@ -147,7 +153,106 @@ module _ (x : Float) (u : Units) (h : T (fits binary64 x)) (p : T (positive x)) 
       some (fin false zero e) h p = absurd p
       some (fin false (suc m) e) h p = digits-pos binary64 false m e h
 
--- ---- 0 < x, as the code tests it, and x below infinity
+-- ---- the same from the pattern b of a normal x: its digits below the leading one, and its exponent's field
+pub no-nan : (x : Float) → T (positive x) → T (not (isNan x))
+unfolding isNan
+no-nan nan p = absurd p
+no-nan (inf s) p = tt
+no-nan (fin s m e) p = tt
+
+abbrev led : ℕ → ℕ
+led b = 2 ^ 62 + b % 2 ^ 52 * 1024
+
+module _ (x : Float) (b : ℕ) (h : T (fits binary64 x)) (p : T (positive x)) (e : b ≡ toBits binary64 x) where
+  plus : b < 2 ^ 63
+  unfolding splitDef
+  plus = leb-false (2 ^ 63) b (ap (leb (2 ^ 63)) e ∙ go x h p)
+    where
+      go : (x : Float) → T (fits binary64 x) → T (positive x) → leb (2 ^ 63) (toBits binary64 x) ≡ false
+      go nan h p = absurd p
+      go (inf s) h p = absurd p
+      go (fin true m e) h p = absurd p
+      go (fin false m e) h p = negative-is binary64 false m e h
+
+  pub field-lt : b / 2 ^ 52 < 2 ^ 11
+  field-lt = out b plus
+    where
+      out : (b : ℕ) → b < 2 ^ 63 → b / 2 ^ 52 < 2 ^ 11
+      out b h = omega arith
+
+  units-is : (b / 2 ^ 52 ≡ 0 → ⊥) → (unitsDef binary64 x .digits ≡ 2 ^ 52 + b % 2 ^ 52) × (unitsDef binary64 x .places ≡ b / 2 ^ 52 - 1)
+  unfolding splitDef
+  units-is n =
+      subst (λ (z : ℕ). (splitDef (2 ^ 63) (2 ^ 52) z .digits ≡ 2 ^ 52 + b % 2 ^ 52) × (splitDef (2 ^ 63) (2 ^ 52) z .places ≡ b / 2 ^ 52 - 1)) e
+      (ap (λ (q : Bool). cond q (b % 2 ^ 52) (2 ^ 52 + b % 2 ^ 52)) (ap (λ (y : ℕ). eqb (y / 2 ^ 52) 0) (mod-eq-of-lt plus) ∙ ne-eqb (b / 2 ^ 52) 0 n), ap (λ (y : ℕ). y / 2 ^ 52 - 1) (mod-eq-of-lt plus))
+
+  -- 53 digits
+  size-is : (t : ℕ) → t < 2 ^ 52 → size (2 ^ 52 + t) ≡ 53
+  size-is t k = le-antisymm (size-le (2 ^ 52 + t) 53 (omega arith)) (pow-lt-back 52 (size (2 ^ 52 + t)) (lt-of-le-of-lt (le-add-right (2 ^ 52) t) (size-lt (2 ^ 52 + t))))
+
+  moved-is : moved (2 ^ 52 + b % 2 ^ 52) ≡ led b
+  moved-is = ap (λ (z : ℕ). (2 ^ 52 + b % 2 ^ 52) * 2 ^ (63 - z)) (size-is (b % 2 ^ 52) (mod-lt b (lit< tt))) ∙ out (b % 2 ^ 52)
+    where
+      out : (t : ℕ) → (2 ^ 52 + t) * 1024 ≡ 2 ^ 62 + t * 1024
+      out t = omega arith
+
+  pub led-range : (2 ^ 62 ≤ led b) × (led b < 2 ^ 63)
+  led-range = (le-add-right (2 ^ 62) (b % 2 ^ 52 * 1024), under (b % 2 ^ 52) (mod-lt b (lit< tt)))
+    where
+      under : (t : ℕ) → t < 2 ^ 52 → 2 ^ 62 + t * 1024 < 2 ^ 63
+      under t k = omega arith
+
+  exponent-same : (y : ℕ) → (y ≡ 0 → ⊥) → minus y 1023 ≡ minus (y - 1 + 53) 1075
+  exponent-same y n = minus-same y 1023 (y - 1 + 53) 1075 (sums y (pos-of-ne y n))
+    where
+      pos-of-ne : (y : ℕ) → (y ≡ 0 → ⊥) → 0 < y
+      pos-of-ne zero n = absurd (n refl)
+      pos-of-ne (suc y) n = zero-lt-suc y
+
+      sums : (y : ℕ) → 0 < y → y + 1075 ≡ y - 1 + 53 + 1023
+      sums y h = omega arith
+
+  pub exponent-short : (b / 2 ^ 52 ≡ 0 → ⊥) → Near (minus (b / 2 ^ 52) 1023)
+  exponent-short n = subst Near (sym (exponent-same (b / 2 ^ 52) n)) (near (b / 2 ^ 52 - 1 + 53) (some (b / 2 ^ 52)) (few (b / 2 ^ 52) field-lt))
+    where
+      some : (y : ℕ) → 0 < y - 1 + 53
+      some y = omega arith
+
+      few : (y : ℕ) → y < 2 ^ 11 → y - 1 + 53 ≤ 2100
+      few y h = omega arith
+
+  normal-log : (f : Format) → (b / 2 ^ 52 ≡ 0 → ⊥) → logAt (minus (b / 2 ^ 52) 1023) (index (led b)) (below f (gap (index (led b)) (led b))) ≡ logOf f x
+  unfolding logUnits
+  normal-log f n =
+      let q = units-is n in
+      ap₂ (λ (z : ℤ) (m : ℕ). logAt z (index m) (below f (gap (index m) m)))
+      (exponent-same (b / 2 ^ 52) n ∙ ap (λ (z : ℕ). minus (b / 2 ^ 52 - 1 + z) 1075) (sym (size-is (b % 2 ^ 52) (mod-lt b (lit< tt))))) (sym moved-is)
+      ∙ ap₂ (logUnits f) (sym (q .0)) (sym (q .1))
+      ∙ log-of x (unitsDef binary64 x) h p refl f
+
+  pub logged : (f : Format) → (b / 2 ^ 52 ≡ 0 → ⊥) → (k : ℤ) → k ≡ minus (b / 2 ^ 52) 1023 → (r : Log) → Logged (logAt k (index (led b)) (below f (gap (index (led b)) (led b)))) r → Logged (logOf f x) r
+  logged f n k q r t = subst (λ (l : Fixed). Logged l r) (ap (λ (z : ℤ). logAt z (index (led b)) (below f (gap (index (led b)) (led b)))) q ∙ normal-log f n) t
+
+-- ---- no double lies above the largest one
+under-most : (m : ℕ) (e : ℤ) → m < 2 ^ 53 → m * up e < 2 ^ 1024 * down e → m * up e * 1 ≤ 0x1f_ffff_ffff_ffff * 2 ^ 971 * down e
+under-most m (pos k) a b = go (leb k 971) (leb→le k 971) (nleb→lt k 971)
+  where
+    less : {n : ℕ} → n < 2 ^ 53 → n ≤ 0x1f_ffff_ffff_ffff
+    less h = omega arith
+
+    split : (k : ℕ) → 971 < k → k ≡ k - 971 + 971
+    split k h = omega arith
+
+    go : (t : Bool) → (T t → k ≤ 971) → (T (not t) → 971 < k) → m * 2 ^ k * 1 ≤ 0x1f_ffff_ffff_ffff * 2 ^ 971 * 1
+    go true u v = mul-le-mul-right 1 (mul-le-mul (less a) (pow-mono (u tt)))
+    go false u v =
+        let j = k - 971 in
+        let q : m * 2 ^ k ≡ m * 2 ^ j * 2 ^ 971 = ap (λ (x : ℕ). m * x) (ap (λ (x : ℕ). 2 ^ x) (split k (v tt)) ∙ pow-add 2 j 971) ∙ sym (mul-assoc m (2 ^ j) (2 ^ 971)) in
+        let l : m * 2 ^ j < 2 ^ 53 = lt-of-mul-lt-mul-right (2 ^ 971) (subst (λ (x : ℕ). x < 2 ^ 1024) q b) in
+        mul-le-mul-right 1 (le-trans (le-of-eq q) (mul-le-mul-right (2 ^ 971) (less l)))
+under-most m (negsuc k) a b = le-trans (le-of-eq (mul-one (m * 1))) (mul-le-mul (le-trans (le-of-lt a) (lit≤ tt)) (pow-pos (suc k)))
+
+-- ---- 0 < x, as the code tests it, and x up to the largest double
 nothing : (n : ℕ) → 0 * 1 * n ≡ 0
 nothing n = omega arith
 
@@ -158,13 +263,20 @@ part-pos zero e h = absurd (no (down e) (up e) h)
     no d u h = omega arith
 part-pos (suc m) e h = zero-lt-suc m
 
-pub above-zero : (x : Float) → lt (fin false 0 (pos 0)) x ≡ true → lt x (inf false) ≡ positive x
-unfolding lt
-above-zero nan h = refl
-above-zero (inf true) h = absurd (false≢true h)
-above-zero (inf false) h = refl
-above-zero (fin true m e) h = absurd (false≢true h)
-above-zero (fin false m e) h = sym (lt-ltb 0 m (part-pos m e (ltb-true (0 * 1 * down e) (m * up e * 1) h)))
+abbrev most : Float
+most = fin false 0x1f_ffff_ffff_ffff (pos 971)
+
+pub above-zero : (x : Float) → T (fits binary64 x) → lt (fin false 0 (pos 0)) x ≡ true → le x most ≡ positive x
+unfolding lt le
+above-zero nan k h = refl
+above-zero (inf true) k h = absurd (false≢true h)
+above-zero (inf false) k h = refl
+above-zero (fin true m e) k h = absurd (false≢true h)
+above-zero (fin false zero e) k h = absurd (lt-irrefl 0 (part-pos 0 e (ltb-true (0 * 1 * down e) (0 * up e * 1) h)))
+above-zero (fin false (suc m) e) k h =
+    let q = parts m e k in
+    is-true (le (fin false (suc m) e) most) (cross→le (fin false (suc m) e) most (lt→ltb 0 (suc m) (zero-lt-suc m)) tt (under-most (suc m) e (q .0) (q .1)))
+    ∙ sym (lt-ltb 0 (suc m) (zero-lt-suc m))
 
 pub not-above : (x : Float) → lt (fin false 0 (pos 0)) x ≡ false → lt (fin false 0 (pos 0)) x ≡ positive x
 unfolding lt

@@ -5,7 +5,7 @@ use lib.IntN.{ℤ, pos, natAbs, _-ℤ_}
 use mir.Syntax.{w64}
 use mir.Val.{toZ, ofZ}
 use borrow.Author.Needs.{needs}
-use Rattle.ln_pow.proofs.logarithm.Signed.{plain, turned, up-short, up-log, down-short, down-log}
+use Rattle.ln_pow.proofs.logarithm.Signed.{plain, turned, steps-short, rest-short, up-short, up-log, down-short, down-log}
 use Rattle.ln_pow.proofs.logarithm.combine.Statement.{statement}
 use Rattle.ln_pow.proofs.logarithm.combine.Tie as tie
 
@@ -41,7 +41,10 @@ product-requires-2 : tie.Need-product-requires-2
 product-requires-2 c κs = search needs
 
 less-of-requires : tie.Need-less-of-requires
-less-of-requires c κs = search needs
+less-of-requires c κs =
+    let s = c .before .before .before in
+    let p = plain (s .args .k) (s .fits .k) (s .pre .0, s .pre .1) (c .before .if1 .taken) in
+    (steps-short (size-up (s .args .k)) (s .args .i) (c .product2 .result) (p .1) (s .pre .2) (c .product2 .ensures), rest-short (s .args .l) (c .before .before .product .result) (s .fits .l .fits) (c .before .before .product .ensures))
 
 words-requires : tie.Need-words-requires
 words-requires c κs =

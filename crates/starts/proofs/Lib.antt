@@ -1,0 +1,2 @@
+-- The proof of the one function.
+mod Arms
