@@ -118,7 +118,7 @@ uint32_t fsrs_card_loss_and_grad(const float *w, size_t w_len, const float *t_hi
                                  size_t records_len, double *step_grads, size_t step_grads_len, double *loss);
 
 /* ---- a batch file, run as one call of its loss with the gradient, which is added to the 21 slots of gw. Refusal 11, then
- * those of the loss, but never 4. It takes about 160 KB of the stack. */
+ * those of the loss. Records and step gradients are its own, with room for every file: it takes about 160 KB of the stack. */
 uint32_t fsrs_batch_file(const uint8_t *file, size_t file_len, double *gw, size_t gw_len, double *loss);
 
 #ifdef __cplusplus
