@@ -1,2 +1,3 @@
 -- What the proofs of `ln` share.
 pub mod Answer
+pub mod Nearest

@@ -2,7 +2,7 @@
 ghost use mathlib.Core.Path.{_≡_};
 ghost use lib.Ieee.{binary64};
 ghost use Rattle.kernels.specs.Kernels.{lnDef, powDef};
-use crate::ln::joined;
+use crate::ln::nearest_f64;
 use crate::logarithm::has_log;
 use crate::logarithm::log_f64;
 use crate::pow::in_range;
@@ -10,7 +10,6 @@ use crate::pow::times;
 use crate::pow::unlike;
 use exp::raised_f64;
 use parts::units::measure;
-use soft::pack::pack_wide_f64;
 
 pub struct PowLn {
     pub pow: f64,
@@ -28,7 +27,7 @@ pub fn pow_ln_f64(x: f64, y: f64) -> PowLn
         };
     }
     let l = log_f64(x);
-    let ln = pack_wide_f64(l.negative, joined(l.high, l.low), -72);
+    let ln = nearest_f64(l.negative, l.high, l.low);
     if !in_range(y) {
         return PowLn { pow: 0.0 / 0.0, ln };
     }

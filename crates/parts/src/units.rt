@@ -29,10 +29,11 @@ pub fn measure(x: f64) -> Units
     split(pattern(x), 0x8000_0000_0000_0000, 0x10_0000_0000_0000)
 }
 
-// Whether x is neither a NaN nor an infinity.
+// Whether x is neither a NaN nor an infinity. The largest double is asked for, since LLVM makes a slow test of a comparison
+// with infinity.
 pub fn is_finite(x: f64) -> bool
     ensures { λ r. ⌜ r ≡ finite x ⌝ }
 {
-    let end = f64::from_bits(0x7ff0_0000_0000_0000);
-    -end < x && x < end
+    let most = f64::from_bits(0x7fef_ffff_ffff_ffff);
+    -most <= x && x <= most
 }

@@ -31,9 +31,9 @@ by-log f (fin true m e) h = absurd h
 by-log f (fin false zero e) h = absurd h
 by-log f (fin false (suc m) e) h = refl
 
-pub ln-is : (f : Format) (x : Float) (l : Log) (w : ℕ) → T (positive x) → Logged (logOf f x) l → w ≡ l .high * 2 ^ 32 + l .low → packWideDef f (l .negative) w (negsuc 71) ≡ lnDef f x
+pub ln-is : (f : Format) (x : Float) (l : Log) → T (positive x) → Logged (logOf f x) l → packWideDef f (l .negative) (l .high * 2 ^ 32 + l .low) (negsuc 71) ≡ lnDef f x
 unfolding packWideDef
-ln-is f x l w h k e = ap₂ (λ (s : Bool) (n : ℕ). round f s n (2 ^ 72)) (k .sign) (mul-one w ∙ e ∙ k .is) ∙ by-log f x h
+ln-is f x l h k = ap₂ (λ (s : Bool) (n : ℕ). round f s n (2 ^ 72)) (k .sign) (mul-one (l .high * 2 ^ 32 + l .low) ∙ k .is) ∙ by-log f x h
 
 -- two words from 50 and 32 digits
 pub join : (h l a r : ℕ) → h < 2 ^ 50 → l < 2 ^ 32 → a ≡ h * 2 ^ 32 → r ≡ (a + (0 * 2 ^ 64 + l)) % 2 ^ 128 → r ≡ h * 2 ^ 32 + l

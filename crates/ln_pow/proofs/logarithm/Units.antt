@@ -1,22 +1,23 @@
 -- A positive double's logarithm is that of its digits and places: both give the same significand and the same exponent. Assumes nothing.
 use mathlib.Core.Path.{_≡_, refl, sym, ap, ap₂, _∙_, subst}
-use mathlib.Core.Bool.{Bool, true, false, not, cond, _&&_, true≢false, false≢true}
+use mathlib.Core.Bool.{Bool, true, false, not, cond, true≢false, false≢true}
 use Prim.Native.Nat.{ℕ, zero, suc, _+_, _-_, _*_, _/_, _%_, _^_, _≤_, _<_}
-use native.Mathlib.Nat.{le-add-right, mod-lt, mod-eq-of-lt, le-trans, le-of-eq, le-of-lt, le-antisymm, lt-of-le-of-lt, lt-of-lt-of-le, lt-irrefl, mul-one, mul-assoc, mul-comm, mul-left-comm, mul-le-mul, mul-le-mul-right, lt-of-mul-lt-mul-right, mul-pos, eq-of-mul-eq-mul-right, sub-zero, zero-lt-suc}
+use native.Mathlib.Nat.{le-add-right, mod-lt, mod-eq-of-lt, le-trans, le-of-eq, le-antisymm, lt-of-le-of-lt, lt-of-lt-of-le, lt-irrefl, mul-one, mul-assoc, mul-comm, mul-left-comm, mul-le-mul-right, mul-pos, eq-of-mul-eq-mul-right, sub-zero, zero-lt-suc}
 use native.Mathlib.Omega.{arith}
 use borrow.Author.Tests.{ltb-true, ltb-false, lt-ltb, leb-false, ne-eqb}
-use lib.Dec.{T, eqb, leb, ltb, leb·zero, leb→le, nleb→lt, ltb→lt, lt→ltb, lit≤, lit<}
+use lib.Dec.{T, eqb, leb, leb·zero, leb→le, nleb→lt, lt→ltb, lit≤, lit<}
 use lib.IntN.{ℤ, pos, negsuc, subℕ}
-use lib.Pow.{pow-pos, pow-mono, pow-add, shl-lt}
+use lib.Pow.{pow-pos, pow-add, shl-lt}
 use lib.Ieee.{Float, nan, inf, fin, Format, binary64, size, up, down, minus, lt, le, fits, isNan, toBits}
 use lib.Ieee.Bits.{is-true}
 use lib.Ieee.Digits.{size-lt, size-le, size-reaches}
-use lib.Ieee.Fits.{and-l, and-r, up-pos}
+use lib.Ieee.Fits.{up-pos}
 use lib.Ieee.Positive.{positive, positive-finite, cross→le}
 use Rattle.rounding.proofs.Pattern.{pow-lt-back}
 use Rattle.rounding.proofs.Place.{size-pos}
 use Rattle.parts.specs.Units.{splitDef, unitsDef}
 use Rattle.parts.specs.declared.units.Units.{Units}
+use Rattle.parts.proofs.units.Most.{sizes-in, at-most}
 use Rattle.parts.proofs.units.Value.{measured, digits-lt, places-lt, negative-is, digits-pos}
 use Rattle.kernels.specs.Core.{Fixed, index, gap, below, logAt, moved, logarithm}
 use Rattle.kernels.specs.Steps.{logUnits, logOf}
@@ -112,22 +113,11 @@ same-log f a d p (negsuc k) pa ha pd hd h =
     place : (s t k p : ℕ) → 0 < s → s + 1074 ≡ t + (p + suc k) → s - 1 + 1075 ≡ p + t + suc k
     place s t k p h e = omega arith
 
--- what it takes to fit
-module _ (m : ℕ) (e : ℤ) (h : T (fits binary64 (fin false (suc m) e))) where
-  parts : (suc m < 2 ^ 53) × (suc m * up e < 2 ^ 1024 * down e)
-  unfolding fits
-  parts =
-      let a = eqb (suc m % 2) 1 in
-      let b = ltb (suc m) (2 ^ 53) in
-      let c = leb (down e) (2 ^ 1074) in
-      let d = ltb (suc m * up e) (2 ^ 1024 * down e) in
-      (ltb→lt (suc m) (2 ^ 53) (and-r a b (and-l (a && b) c (and-l (a && b && c) d h))), ltb→lt (suc m * up e) (2 ^ 1024 * down e) (and-r (a && b && c) d h))
-
 -- the law for a float's digits and places
 pub units-log : (f : Format) (m : ℕ) (e : ℤ) → T (fits binary64 (fin false (suc m) e))
     → logarithm f (suc m) e ≡ logUnits f (unitsDef binary64 (fin false (suc m) e) .digits) (unitsDef binary64 (fin false (suc m) e) .places)
 units-log f m e h =
-    same-log f (suc m) (unitsDef binary64 (fin false (suc m) e) .digits) (unitsDef binary64 (fin false (suc m) e) .places) e (zero-lt-suc m) (lt-of-lt-of-le (parts m e h .0) (lit≤ tt)) (digits-pos binary64 false m e h)
+    same-log f (suc m) (unitsDef binary64 (fin false (suc m) e) .digits) (unitsDef binary64 (fin false (suc m) e) .places) e (zero-lt-suc m) (lt-of-lt-of-le (sizes-in false m e h .0) (lit≤ tt)) (digits-pos binary64 false m e h)
     (lt-of-lt-of-le (digits-lt binary64 (fin false (suc m) e) h tt) (lit≤ tt)) (measured binary64 (fin false (suc m) e) h tt .1)
 
 -- ---- a float's logarithm from what `measure` gives
@@ -233,25 +223,6 @@ module _ (x : Float) (b : ℕ) (h : T (fits binary64 x)) (p : T (positive x)) (e
   pub logged : (f : Format) → (b / 2 ^ 52 ≡ 0 → ⊥) → (k : ℤ) → k ≡ minus (b / 2 ^ 52) 1023 → (r : Log) → Logged (logAt k (index (led b)) (below f (gap (index (led b)) (led b)))) r → Logged (logOf f x) r
   logged f n k q r t = subst (λ (l : Fixed). Logged l r) (ap (λ (z : ℤ). logAt z (index (led b)) (below f (gap (index (led b)) (led b)))) q ∙ normal-log f n) t
 
--- ---- no double lies above the largest one
-under-most : (m : ℕ) (e : ℤ) → m < 2 ^ 53 → m * up e < 2 ^ 1024 * down e → m * up e * 1 ≤ 0x1f_ffff_ffff_ffff * 2 ^ 971 * down e
-under-most m (pos k) a b = go (leb k 971) (leb→le k 971) (nleb→lt k 971)
-  where
-    less : {n : ℕ} → n < 2 ^ 53 → n ≤ 0x1f_ffff_ffff_ffff
-    less h = omega arith
-
-    split : (k : ℕ) → 971 < k → k ≡ k - 971 + 971
-    split k h = omega arith
-
-    go : (t : Bool) → (T t → k ≤ 971) → (T (not t) → 971 < k) → m * 2 ^ k * 1 ≤ 0x1f_ffff_ffff_ffff * 2 ^ 971 * 1
-    go true u v = mul-le-mul-right 1 (mul-le-mul (less a) (pow-mono (u tt)))
-    go false u v =
-        let j = k - 971 in
-        let q : m * 2 ^ k ≡ m * 2 ^ j * 2 ^ 971 = ap (λ (x : ℕ). m * x) (ap (λ (x : ℕ). 2 ^ x) (split k (v tt)) ∙ pow-add 2 j 971) ∙ sym (mul-assoc m (2 ^ j) (2 ^ 971)) in
-        let l : m * 2 ^ j < 2 ^ 53 = lt-of-mul-lt-mul-right (2 ^ 971) (subst (λ (x : ℕ). x < 2 ^ 1024) q b) in
-        mul-le-mul-right 1 (le-trans (le-of-eq q) (mul-le-mul-right (2 ^ 971) (less l)))
-under-most m (negsuc k) a b = le-trans (le-of-eq (mul-one (m * 1))) (mul-le-mul (le-trans (le-of-lt a) (lit≤ tt)) (pow-pos (suc k)))
-
 -- ---- 0 < x, as the code tests it, and x up to the largest double
 nothing : (n : ℕ) → 0 * 1 * n ≡ 0
 nothing n = omega arith
@@ -274,8 +245,7 @@ above-zero (inf false) k h = refl
 above-zero (fin true m e) k h = absurd (false≢true h)
 above-zero (fin false zero e) k h = absurd (lt-irrefl 0 (part-pos 0 e (ltb-true (0 * 1 * down e) (0 * up e * 1) h)))
 above-zero (fin false (suc m) e) k h =
-    let q = parts m e k in
-    is-true (le (fin false (suc m) e) most) (cross→le (fin false (suc m) e) most (lt→ltb 0 (suc m) (zero-lt-suc m)) tt (under-most (suc m) e (q .0) (q .1)))
+    is-true (le (fin false (suc m) e) most) (cross→le (fin false (suc m) e) most (lt→ltb 0 (suc m) (zero-lt-suc m)) tt (at-most false (suc m) e k))
     ∙ sym (lt-ltb 0 (suc m) (zero-lt-suc m))
 
 pub not-above : (x : Float) → lt (fin false 0 (pos 0)) x ≡ false → lt (fin false 0 (pos 0)) x ≡ positive x

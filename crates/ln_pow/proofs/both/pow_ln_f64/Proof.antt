@@ -27,11 +27,8 @@ returns c =
 log-f64-requires : tie.Need-log-f64-requires
 log-f64-requires c κs = holds (sym (c .before .has-log .ensures) ∙ not-false (c .before .has-log .result) (c .if1 .left))
 
-joined-requires : tie.Need-joined-requires
-joined-requires c κs = search needs
-
-pack-wide-f64-requires : tie.Need-pack-wide-f64-requires
-pack-wide-f64-requires c κs = search needs
+nearest-f64-requires : tie.Need-nearest-f64-requires
+nearest-f64-requires c κs = search needs
 
 in-range-requires : tie.Need-in-range-requires
 in-range-requires c κs = search needs
@@ -39,12 +36,12 @@ in-range-requires c κs = search needs
 returns-2 : tie.Need-returns-2
 unfolding ofBits div
 returns-2 c =
-    let l = c .before .before .before .before in
+    let l = c .before .before .before in
     let s = l .before .before .before in
     let px = holds (sym (l .before .before .has-log .ensures) ∙ not-false (l .before .before .has-log .result) (l .before .if1 .left)) in
     let no = sym (c .before .in-range .ensures) ∙ not-true (c .before .in-range .result) (c .if2 .taken) in
     ap₂ made (no-exponent binary64 (s .args .x) (s .args .y) px no)
-    (c .before .before .pack-wide-f64 .ensures ∙ ln-is binary64 (s .args .x) (l .log-f64 .result) (valueOf (c .before .before .before .joined .result)) px (l .log-f64 .ensures) (c .before .before .before .joined .ensures))
+    (c .before .before .nearest-f64 .ensures ∙ ln-is binary64 (s .args .x) (l .log-f64 .result) px (l .log-f64 .ensures))
 
 measure-requires : tie.Need-measure-requires
 measure-requires c κs = search needs
@@ -52,7 +49,7 @@ measure-requires c κs = search needs
 times-requires : tie.Need-times-requires
 times-requires c κs =
     let i = c .before .before in
-    let l = i .before .before .before in
+    let l = i .before .before in
     let s = l .before .before .before in
     let e = exponent-ready (s .args .y) (c .measure .result) (holds (s .good .1 .0 .1)) (holds (sym (i .in-range .ensures) ∙ not-false (i .in-range .result) (c .before .if2 .left))) (c .measure .ensures) in
     (e .0, e .1, l .log-f64 .ensures .short, l .log-f64 .ensures .rest)
@@ -67,13 +64,13 @@ returns-3 : tie.Need-returns-3
 returns-3 c =
     let m = c .before .before .before in
     let i = m .before .before in
-    let l = i .before .before .before in
+    let l = i .before .before in
     let s = l .before .before .before in
     let px = holds (sym (l .before .before .has-log .ensures) ∙ not-false (l .before .before .has-log .result) (l .before .if1 .left)) in
     let yes = sym (i .in-range .ensures) ∙ not-false (i .in-range .result) (m .before .if2 .left) in
     ap₂ made
     (c .raised-f64 .ensures ∙ pow-is binary64 (s .args .x) (s .args .y) (l .log-f64 .result) (m .measure .result) (c .before .unlike .result) (valueOf (c .before .before .times .result)) px (holds (s .good .1 .0 .1)) yes (l .log-f64 .ensures) (m .measure .ensures) (c .before .unlike .ensures) (c .before .before .times .ensures))
-    (i .before .pack-wide-f64 .ensures ∙ ln-is binary64 (s .args .x) (l .log-f64 .result) (valueOf (i .before .before .joined .result)) px (l .log-f64 .ensures) (i .before .before .joined .ensures))
+    (i .before .nearest-f64 .ensures ∙ ln-is binary64 (s .args .x) (l .log-f64 .result) px (l .log-f64 .ensures))
 
 pub pow-ln-f64-spec : {M : Type 1} → statement M
 pow-ln-f64-spec =
@@ -82,8 +79,7 @@ pow-ln-f64-spec =
     has-log-requires
     returns
     log-f64-requires
-    joined-requires
-    pack-wide-f64-requires
+    nearest-f64-requires
     in-range-requires
     returns-2
     measure-requires

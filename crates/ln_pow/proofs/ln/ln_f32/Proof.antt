@@ -3,7 +3,6 @@ use mathlib.Core.Path.{sym, ap, _∙_}
 use lib.Ieee.{binary32, ofBits, div}
 use borrow.Author.Needs.{needs}
 use borrow.Author.Tests.{not-true, not-false}
-use Rattle.wide.specs.Value.{valueOf}
 use Rattle.parts.proofs.units.Value.{holds}
 use Rattle.kernels.specs.Kernels.{lnDef}
 use Rattle.ln_pow.proofs.ln.Answer.{no-log, ln-is}
@@ -23,14 +22,11 @@ returns c = no-log binary32 (c .before .before .f32-to-f64-with-nan .result) (sy
 log-f32-requires : tie.Need-log-f32-requires
 log-f32-requires c κs = holds (sym (c .before .has-log .ensures) ∙ not-false (c .before .has-log .result) (c .if1 .left))
 
-joined-requires : tie.Need-joined-requires
-joined-requires c κs = search needs
-
-pack-wide-f32-requires : tie.Need-pack-wide-f32-requires
-pack-wide-f32-requires c κs = search needs
+nearest-f32-requires : tie.Need-nearest-f32-requires
+nearest-f32-requires c κs = search needs
 
 returns-2 : tie.Need-returns-2
-returns-2 c = c .pack-wide-f32 .ensures ∙ ln-is binary32 (c .before .before .before .before .before .f32-to-f64-with-nan .result) (c .before .before .log-f32 .result) (valueOf (c .before .joined .result)) (holds (sym (c .before .before .before .before .has-log .ensures) ∙ not-false (c .before .before .before .before .has-log .result) (c .before .before .before .if1 .left))) (c .before .before .log-f32 .ensures) (c .before .joined .ensures) ∙ ap (lnDef binary32) (c .before .before .before .before .before .f32-to-f64-with-nan .ensures)
+returns-2 c = c .nearest-f32 .ensures ∙ ln-is binary32 (c .before .before .before .before .f32-to-f64-with-nan .result) (c .before .log-f32 .result) (holds (sym (c .before .before .before .has-log .ensures) ∙ not-false (c .before .before .before .has-log .result) (c .before .before .if1 .left))) (c .before .log-f32 .ensures) ∙ ap (lnDef binary32) (c .before .before .before .before .f32-to-f64-with-nan .ensures)
 
 pub ln-f32-spec : {M : Type 1} → statement M
 ln-f32-spec =
@@ -40,6 +36,5 @@ ln-f32-spec =
     has-log-requires
     returns
     log-f32-requires
-    joined-requires
-    pack-wide-f32-requires
+    nearest-f32-requires
     returns-2)

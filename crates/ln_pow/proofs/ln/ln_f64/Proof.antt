@@ -3,8 +3,8 @@ use mathlib.Core.Path.{sym, _∙_}
 use lib.Ieee.{binary64, ofBits, div}
 use borrow.Author.Needs.{needs}
 use borrow.Author.Tests.{not-true, not-false}
-use Rattle.wide.specs.Value.{valueOf}
 use Rattle.parts.proofs.units.Value.{holds}
+use Rattle.ln_pow.proofs.logarithm.One.{ln-at-one}
 use Rattle.ln_pow.proofs.ln.Answer.{no-log, ln-is}
 use Rattle.ln_pow.proofs.ln.ln_f64.Statement.{statement}
 use Rattle.ln_pow.proofs.ln.ln_f64.Tie as tie
@@ -16,17 +16,18 @@ returns : tie.Need-returns
 unfolding ofBits div
 returns c = no-log binary64 (c .before .before .args .x) (sym (c .before .has-log .ensures) ∙ not-true (c .before .has-log .result) (c .if1 .taken))
 
-log-f64-requires : tie.Need-log-f64-requires
-log-f64-requires c κs = holds (sym (c .before .has-log .ensures) ∙ not-false (c .before .has-log .result) (c .if1 .left))
-
-joined-requires : tie.Need-joined-requires
-joined-requires c κs = search needs
-
-pack-wide-f64-requires : tie.Need-pack-wide-f64-requires
-pack-wide-f64-requires c κs = search needs
-
 returns-2 : tie.Need-returns-2
-returns-2 c = c .pack-wide-f64 .ensures ∙ ln-is binary64 (c .before .before .before .before .before .args .x) (c .before .before .log-f64 .result) (valueOf (c .before .joined .result)) (holds (sym (c .before .before .before .before .has-log .ensures) ∙ not-false (c .before .before .before .before .has-log .result) (c .before .before .before .if1 .left))) (c .before .before .log-f64 .ensures) (c .before .joined .ensures)
+unfolding ofBits
+returns-2 c = ln-at-one binary64 (c .before .before .before .args .x) (holds (c .before .before .before .good .0 .1)) (c .if2 .taken)
+
+log-f64-requires : tie.Need-log-f64-requires
+log-f64-requires c κs = holds (sym (c .before .before .has-log .ensures) ∙ not-false (c .before .before .has-log .result) (c .before .if1 .left))
+
+nearest-f64-requires : tie.Need-nearest-f64-requires
+nearest-f64-requires c κs = search needs
+
+returns-3 : tie.Need-returns-3
+returns-3 c = c .nearest-f64 .ensures ∙ ln-is binary64 (c .before .before .before .before .before .args .x) (c .before .log-f64 .result) (holds (sym (c .before .before .before .before .has-log .ensures) ∙ not-false (c .before .before .before .before .has-log .result) (c .before .before .before .if1 .left))) (c .before .log-f64 .ensures)
 
 pub ln-f64-spec : {M : Type 1} → statement M
 ln-f64-spec =
@@ -34,7 +35,7 @@ ln-f64-spec =
     (tie.spec
     has-log-requires
     returns
+    returns-2
     log-f64-requires
-    joined-requires
-    pack-wide-f64-requires
-    returns-2)
+    nearest-f64-requires
+    returns-3)

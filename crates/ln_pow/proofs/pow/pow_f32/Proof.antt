@@ -1,5 +1,5 @@
 -- `ln_pow::pow::pow_f32` meets its contract. Assumes nothing.
-use mathlib.Core.Path.{sym, ap₂, subst, _∙_}
+use mathlib.Core.Path.{sym, ap, ap₂, subst, _∙_}
 use lib.Ieee.{binary32, ofBits, div, Float, binary64, fits}
 use lib.Dec.{T}
 use lib.Ieee.Fits.{fits-widens}
@@ -7,7 +7,8 @@ use borrow.Author.Needs.{needs}
 use borrow.Author.Tests.{not-true, not-false}
 use Rattle.wide.specs.Value.{valueOf}
 use Rattle.parts.proofs.units.Value.{holds}
-use Rattle.kernels.specs.Kernels.{powDef}
+use Rattle.kernels.specs.Kernels.{powered, powDef}
+use Rattle.ln_pow.proofs.logarithm.One.{pow-at-one}
 use Rattle.ln_pow.proofs.pow.Answer.{no-base, no-exponent, exponent-ready, pow-is}
 use Rattle.ln_pow.proofs.pow.pow_f32.Statement.{statement}
 use Rattle.ln_pow.proofs.pow.pow_f32.Tie as tie
@@ -32,15 +33,19 @@ returns-2 : tie.Need-returns-2
 unfolding ofBits div
 returns-2 c = no-exponent binary32 (c .before .before .before .before .before .f32-to-f64-with-nan .result) (c .before .before .before .before .f32-to-f64-with-nan2 .result) (holds (sym (c .before .before .before .has-log .ensures) ∙ not-false (c .before .before .before .has-log .result) (c .before .before .if1 .left))) (sym (c .before .in-range .ensures) ∙ not-true (c .before .in-range .result) (c .if2 .taken)) ∙ ap₂ (powDef binary32) (c .before .before .before .before .before .f32-to-f64-with-nan .ensures) (c .before .before .before .before .f32-to-f64-with-nan2 .ensures)
 
+returns-3 : tie.Need-returns-3
+unfolding ofBits
+returns-3 c = pow-at-one binary32 (c .before .before .before .before .before .before .before .args .x) (c .before .before .before .before .before .before .before .args .y) (holds (c .before .before .before .before .before .before .before .good .0 .1)) (c .if3 .taken) (sym (ap powered (c .before .before .before .before .before .f32-to-f64-with-nan2 .ensures)) ∙ sym (c .before .before .in-range .ensures) ∙ not-false (c .before .before .in-range .result) (c .before .if2 .left))
+
 log-f32-requires : tie.Need-log-f32-requires
-log-f32-requires c κs = holds (sym (c .before .before .before .has-log .ensures) ∙ not-false (c .before .before .before .has-log .result) (c .before .before .if1 .left))
+log-f32-requires c κs = holds (sym (c .before .before .before .before .has-log .ensures) ∙ not-false (c .before .before .before .before .has-log .result) (c .before .before .before .if1 .left))
 
 measure-requires : tie.Need-measure-requires
 measure-requires c κs = search needs
 
 times-requires : tie.Need-times-requires
 times-requires c κs =
-    let e = exponent-ready (c .before .before .before .before .before .before .f32-to-f64-with-nan2 .result) (c .measure .result) (subst (λ (z : Float). T (fits binary64 z)) (sym (c .before .before .before .before .before .before .f32-to-f64-with-nan2 .ensures)) (fits-widens (c .before .before .before .before .before .before .before .before .args .y) (holds (c .before .before .before .before .before .before .before .before .good .1 .0 .1)))) (holds (sym (c .before .before .before .in-range .ensures) ∙ not-false (c .before .before .before .in-range .result) (c .before .before .if2 .left))) (c .measure .ensures) in
+    let e = exponent-ready (c .before .before .before .before .before .before .before .f32-to-f64-with-nan2 .result) (c .measure .result) (subst (λ (z : Float). T (fits binary64 z)) (sym (c .before .before .before .before .before .before .before .f32-to-f64-with-nan2 .ensures)) (fits-widens (c .before .before .before .before .before .before .before .before .before .args .y) (holds (c .before .before .before .before .before .before .before .before .before .good .1 .0 .1)))) (holds (sym (c .before .before .before .before .in-range .ensures) ∙ not-false (c .before .before .before .before .in-range .result) (c .before .before .before .if2 .left))) (c .measure .ensures) in
     (e .0, e .1, c .before .log-f32 .ensures .short, c .before .log-f32 .ensures .rest)
 
 unlike-requires : tie.Need-unlike-requires
@@ -49,10 +54,10 @@ unlike-requires c κs = search needs
 raised-f32-requires : tie.Need-raised-f32-requires
 raised-f32-requires c κs = search needs
 
-returns-3 : tie.Need-returns-3
-returns-3 c =
+returns-4 : tie.Need-returns-4
+returns-4 c =
     c .raised-f32 .ensures
-    ∙ pow-is binary32 (c .before .before .before .before .before .before .before .before .before .before .f32-to-f64-with-nan .result) (c .before .before .before .before .before .before .before .before .before .f32-to-f64-with-nan2 .result) (c .before .before .before .before .log-f32 .result) (c .before .before .before .measure .result) (c .before .unlike .result) (valueOf (c .before .before .times .result)) (holds (sym (c .before .before .before .before .before .before .before .before .has-log .ensures) ∙ not-false (c .before .before .before .before .before .before .before .before .has-log .result) (c .before .before .before .before .before .before .before .if1 .left))) (subst (λ (z : Float). T (fits binary64 z)) (sym (c .before .before .before .before .before .before .before .before .before .f32-to-f64-with-nan2 .ensures)) (fits-widens (c .before .before .before .before .before .before .before .before .before .before .before .args .y) (holds (c .before .before .before .before .before .before .before .before .before .before .before .good .1 .0 .1)))) (sym (c .before .before .before .before .before .before .in-range .ensures) ∙ not-false (c .before .before .before .before .before .before .in-range .result) (c .before .before .before .before .before .if2 .left)) (c .before .before .before .before .log-f32 .ensures) (c .before .before .before .measure .ensures) (c .before .unlike .ensures) (c .before .before .times .ensures) ∙ ap₂ (powDef binary32) (c .before .before .before .before .before .before .before .before .before .before .f32-to-f64-with-nan .ensures) (c .before .before .before .before .before .before .before .before .before .f32-to-f64-with-nan2 .ensures)
+    ∙ pow-is binary32 (c .before .before .before .before .before .before .before .before .before .before .before .f32-to-f64-with-nan .result) (c .before .before .before .before .before .before .before .before .before .before .f32-to-f64-with-nan2 .result) (c .before .before .before .before .log-f32 .result) (c .before .before .before .measure .result) (c .before .unlike .result) (valueOf (c .before .before .times .result)) (holds (sym (c .before .before .before .before .before .before .before .before .before .has-log .ensures) ∙ not-false (c .before .before .before .before .before .before .before .before .before .has-log .result) (c .before .before .before .before .before .before .before .before .if1 .left))) (subst (λ (z : Float). T (fits binary64 z)) (sym (c .before .before .before .before .before .before .before .before .before .before .f32-to-f64-with-nan2 .ensures)) (fits-widens (c .before .before .before .before .before .before .before .before .before .before .before .before .args .y) (holds (c .before .before .before .before .before .before .before .before .before .before .before .before .good .1 .0 .1)))) (sym (c .before .before .before .before .before .before .before .in-range .ensures) ∙ not-false (c .before .before .before .before .before .before .before .in-range .result) (c .before .before .before .before .before .before .if2 .left)) (c .before .before .before .before .log-f32 .ensures) (c .before .before .before .measure .ensures) (c .before .unlike .ensures) (c .before .before .times .ensures) ∙ ap₂ (powDef binary32) (c .before .before .before .before .before .before .before .before .before .before .before .f32-to-f64-with-nan .ensures) (c .before .before .before .before .before .before .before .before .before .before .f32-to-f64-with-nan2 .ensures)
 
 pub pow-f32-spec : {M : Type 1} → statement M
 pow-f32-spec =
@@ -64,9 +69,10 @@ pow-f32-spec =
     returns
     in-range-requires
     returns-2
+    returns-3
     log-f32-requires
     measure-requires
     times-requires
     unlike-requires
     raised-f32-requires
-    returns-3)
+    returns-4)
