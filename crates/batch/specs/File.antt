@@ -24,7 +24,7 @@ abbrev pub inOrder : (h : Header) (n : ℕ) → Type 0
 inOrder h n =
     (h .weights ≤ h .days) × (h .days ≤ h .ratings) × (h .ratings ≤ h .lengths) × (h .lengths ≤ h .targets) × (h .targets ≤ h .labels) × (h .labels ≤ h .reviews) × (h .reviews ≤ h .end) × (h .end ≤ n)
 
--- the lent records and step gradients have room for 512 rows, the most that a file has
+-- the call's own records and step gradients have room for 512 rows, the most that a file has
 abbrev pub RECORDS : ℕ
 RECORDS = 5120
 

@@ -12,7 +12,7 @@ const MAX_ROWS: u32 = 512;
 
 const MAX_BYTES: usize = 65536;
 
-// Where each section begins, and the file's end, in words of four bytes. All are 0 where the file is refused.
+// Where each section begins, and the file's end, in words of four bytes: 0 where the file is refused.
 pub struct Header {
     pub refusal: u32,
     pub kind: u32,
