@@ -42,14 +42,14 @@ not-20 false b e o = refl
 not-20 true b e o = absurd (subst T (rw e at o) tt)
 
 module _ (k : ℕ) where
-  abbrev Out : List ℕ → Type 0
+  abbrev pub Out : List ℕ → Type 0
   Out ks = among k ks ≡ false
 
-  head : (i : ℕ) (ks : List ℕ) → Out (i ∷ ks) → eqb k i ≡ false
+  pub head : (i : ℕ) (ks : List ℕ) → Out (i ∷ ks) → eqb k i ≡ false
   unfolding among
   head i ks o = or-left (eqb k i) (among k ks) o
 
-  tail : (i : ℕ) (ks : List ℕ) → Out (i ∷ ks) → Out ks
+  pub tail : (i : ℕ) (ks : List ℕ) → Out (i ∷ ks) → Out ks
   unfolding among
   tail i ks o = or-right (eqb k i) (among k ks) o
 
@@ -65,7 +65,7 @@ module _ (k : ℕ) where
   unfolding bumpIf
   bump-if-keeps b gw i v h = cond-keeps b (bump gw i v) gw gw (λ e. bump-keeps gw i v (h e)) (λ e. refl)
 
-  out-after : (xs ys : List ℕ) → Out (xs ++ ys) → Out ys
+  pub out-after : (xs ys : List ℕ) → Out (xs ++ ys) → Out ys
   out-after [] ys o = o
   out-after (x ∷ xs) ys o = out-after xs ys (tail x (xs ++ ys) o)
 
@@ -134,7 +134,7 @@ module _ (k : ℕ) where
       (λ e. bump-keeps _ 5 _ (head 5 [] (tail 4 (5 ∷ []) o4)) ∙ bump-keeps _ 4 _ (head 4 (5 ∷ []) o4) ∙ own)
       (λ e. own)
 
-  curve-keeps : (slope : Float) (c : CurveCache) (g : Float) (gw : List Float) → eqb k 20 && not (eq g zero64) ≡ false → curveSlots slope c g gw ! k ≡ gw ! k
+  pub curve-keeps : (slope : Float) (c : CurveCache) (g : Float) (gw : List Float) → eqb k 20 && not (eq g zero64) ≡ false → curveSlots slope c g gw ! k ≡ gw ! k
   unfolding curveSlots
   curve-keeps slope c g gw o = cond-keeps (eq g zero64) _ _ gw (λ e. refl) (λ e. bump-keeps gw 20 _ (not-20 (eqb k 20) (eq g zero64) e o))
 

@@ -28,7 +28,7 @@ or-true false b e = e
 or-left : (a b : Bool) → a ≡ true → a || b ≡ true
 or-left a b e = rw e
 
-among-append : (k : ℕ) (xs ys : List ℕ) → among k (xs ++ ys) ≡ among k xs || among k ys
+pub among-append : (k : ℕ) (xs ys : List ℕ) → among k (xs ++ ys) ≡ among k xs || among k ys
 unfolding among
 among-append k [] ys = refl
 among-append k (x ∷ xs) ys = rw (among-append k xs ys, or-assoc (eqb k x))

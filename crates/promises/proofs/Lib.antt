@@ -10,3 +10,5 @@ pub mod Refusals
 pub mod power
 pub mod logarithm
 pub mod Kernels
+pub mod reading
+pub mod Frozen

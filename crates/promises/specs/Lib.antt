@@ -1,1 +1,4 @@
+pub mod Calls
+pub mod Frozen
 pub mod Kernels
+pub mod Reads

@@ -1,0 +1,7 @@
+-- Demand 3, piece by piece.
+pub mod Some
+pub mod Box
+pub mod Steps
+pub mod Any
+pub mod Prefix
+pub mod Card
