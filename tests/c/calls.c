@@ -511,6 +511,58 @@ static void losses(void) {
     expect_nothing("day 100000", batch_grad, x);
 }
 
+/* ---- frozen weights */
+
+/* Two columns of one step each, a first review rated 1 and one rated 4, and a scored end. They read weights 0, 3, 4, 5 and 20;
+ * the other slots start at NaNs, each with a payload of its own. */
+static struct call short_columns(uint32_t length) {
+    struct call x = good();
+    x.lengths[0] = x.lengths[1] = length;
+    x.ratings[0] = 1;
+    x.ratings[1] = 4;
+    for (int i = 0; i < FSRS_WEIGHTS; i++) {
+        uint64_t bits = 0xfff8000000000100 + (uint64_t)i;
+        memcpy(&x.gw[i], &bits, sizeof bits);
+    }
+    x.gw[0] = x.gw[3] = x.gw[4] = x.gw[5] = x.gw[20] = 0.5;
+    return x;
+}
+
+/* The same call, with other values in every weight and in many a cell that it does not read. */
+static struct call other_unread(struct call x) {
+    static const float other[FSRS_WEIGHTS] = {
+        [1] = 36500, [2] = 0.0001f, [8] = -5, [11] = 10, [15] = 1, [16] = 10, [17] = 3, [19] = 1,
+    };
+    for (int i = 0; i < FSRS_WEIGHTS; i++) {
+        if (isnan(x.gw[i])) {
+            x.w[i] = other[i];
+        }
+    }
+    for (int row = 1; row < ROWS; row++) {
+        x.ratings[row * COLUMNS] = x.ratings[row * COLUMNS + 1] = 9;
+    }
+    for (int i = 0; i < COLUMNS; i++) {
+        x.days[i] = x.days[2 * COLUMNS + i] = x.labels[2 * COLUMNS + i] = x.weights[2 * COLUMNS + i] = NAN;
+    }
+    return x;
+}
+
+static void expect_frozen(const char *name, uint32_t (*call)(struct call *), uint32_t length) {
+    struct call x = short_columns(length), y = other_unread(x), before = x;
+    expect(call(&x) == FSRS_ACCEPTED && call(&y) == FSRS_ACCEPTED, "%s: refused", name);
+    expect_double(name, y.loss, x.loss);
+    expect(memcmp(x.gw, y.gw, sizeof x.gw) == 0, "%s: a gradient depends on what is not read", name);
+    for (int i = 0; i < FSRS_WEIGHTS; i++) {
+        int same = memcmp(&x.gw[i], &before.gw[i], sizeof x.gw[i]) == 0;
+        expect(same == (isnan(before.gw[i]) != 0), "%s: slot %d", name, i);
+    }
+}
+
+static void frozen(void) {
+    expect_frozen("a prefix of one row", batch_grad, 1);
+    expect_frozen("a card of two rows", card_grad, 2);
+}
+
 /* ---- a file's answers, and what is malformed */
 
 static void expect_file(uint32_t kind, uint32_t (*with_grad)(struct call *)) {
@@ -596,6 +648,7 @@ int main(void) {
     steps();
     steps_backward();
     losses();
+    frozen();
     files();
     files_refused();
     return finish();

@@ -12,3 +12,4 @@ pub mod logarithm
 pub mod Kernels
 pub mod reading
 pub mod Frozen
+pub mod Twelve

@@ -1,0 +1,118 @@
+-- Document 01's twelve values. Assumes nothing.
+use mathlib.Core.Path.{_≡_, refl}
+use mathlib.Core.Bool.{true, false}
+use mathlib.Core.List.{List}
+use lib.Ieee.{Float, binary32, binary64, neg, lt, le, round, sub, sum, ofBits, toBits}
+use Rattle.parts.proofs.units.Value.{holds}
+use Rattle.domain.specs.Floats.{_*ᶠ_, _/ᶠ_, clampDef}
+use Rattle.domain.specs.Limits.{decimal, S_MIN, S_MAX, DAY_MAX, dayGood}
+use Rattle.fma.specs.Fma.{fmaDef, times, plus}
+use Rattle.half_away.specs.HalfAway.{roundDef}
+use Rattle.kernels.specs.Calls.{exp32}
+use Rattle.weights.specs.Weights.{_!_}
+use Rattle.branches.specs.declared.stability.State.{State}
+use Rattle.forward.specs.Step.{clampState, paddingDef, stepDef}
+use Rattle.scores.specs.Scores.{MIN_PROB, MAX_PROB, noScore, scoreDef}
+use Rattle.reads.specs.Reads.{check, first, prefixRow, cardRow, targetDef}
+use Rattle.ends.specs.Ends.{targetLoss, targetGrad, targetSlots}
+use Rattle.values.proofs.Known.{Known}
+use Rattle.values.proofs.Defaults.{single, boxed, first-state}
+use Rattle.values.proofs.Steps.{Ready, same-stability, same-branch, lapse-stability, lapse-branch, early-stability, same-difficulty}
+use Rattle.promises.specs.Twelve.{Weights, InRange, Value1, Value2, Value3, Value4, Value5, Value6, Value7, Value8, Value9, Value10, Value11, Value12, NextDay, InPrefix, InCard, InTarget, last, next, Twelve}
+use Rattle.promises.proofs.Values.{exp-zero, pow-one, pow-zero, pow-at-most-one}
+
+-- ---- the kernels
+value-1 : Value1
+unfolding MAX_PROB MIN_PROB decimal sub ofBits toBits
+value-1 = (refl, refl)
+
+value-2 : Value2
+unfolding fmaDef times plus sum
+value-2 binary32 = refl
+value-2 binary64 = refl
+
+value-3 : Value3
+unfolding roundDef round ofBits toBits
+value-3 binary32 = (refl, refl)
+value-3 binary64 = (refl, refl)
+
+value-4 : Value4
+value-4 f = exp-zero f true
+
+known : Known
+known = record { exp-zero = exp-zero binary32; pow-one = pow-one binary32; pow-zero = pow-zero binary32; pow-at-most-one = pow-at-most-one binary32 }
+
+-- ---- the steps
+value-5 : Value5
+unfolding stepDef paddingDef clampState clampDef S_MIN S_MAX decimal lt ofBits
+value-5 w day rating e = rw e
+
+value-6 : Value6
+value-6 = (record { singles = single; boxed = boxed }, λ day. first-state known day)
+
+ready : (w : List Float) (q : State) → Weights w → InRange q → Ready w q
+ready w q h g = record {
+  singles = λ k. holds (h .singles k);
+  box = h .boxed;
+  ks = holds (g .single-s);
+  kd = holds (g .single-d);
+  hs = holds (g .stability);
+  hd = holds (g .difficulty);
+}
+
+value-7 : Value7
+value-7 w h q g a b day e = (same-stability known w q (ready w q h g) day a b e, same-branch known w q (ready w q h g) day a b e)
+
+value-8 : Value8
+unfolding S_MIN ofBits
+value-8 w h q g a = (q .s /ᶠ exp32 (w ! 17 *ᶠ w ! 18), lapse-stability known w q (ready w q h g) a, lapse-branch known w q (ready w q h g) a)
+
+value-9 : Value9
+value-9 w h q g = early-stability known w q (ready w q h g)
+
+value-10 : Value10
+value-10 w h q g a day = same-difficulty known w q (ready w q h g) day a
+
+-- ---- the scores
+value-11 : Value11
+unfolding scoreDef noScore targetLoss targetGrad targetSlots
+value-11 p r s day label weight slots e = (rw e, rw e, rw e, rw e)
+
+-- ---- the days
+day-passes : dayGood last ≡ true
+unfolding DAY_MAX decimal le neg
+day-passes = refl
+
+day-fails : dayGood next ≡ false
+unfolding DAY_MAX decimal le neg
+day-fails = refl
+
+next-day : NextDay
+unfolding decimal ofBits toBits
+next-day = (refl, refl)
+
+in-prefix : InPrefix
+unfolding prefixRow check first
+in-prefix row rating e g = (rw (e, g, day-passes), rw (e, g, day-fails))
+
+good : check true true 7 ≡ 0
+unfolding check
+good = refl
+
+bad : check true false 7 ≡ 7
+unfolding check
+bad = refl
+
+in-card : InCard
+unfolding cardRow first
+in-card n row rating weight label e g = (rw (g, e, day-passes, good), rw (g, e, day-fails, bad))
+
+in-target : InTarget
+unfolding targetDef check first
+in-target weight label e g l = (rw (e, g, l, day-passes), rw (e, g, l, day-fails))
+
+value-12 : Value12
+value-12 = (day-passes, day-fails, next-day, in-prefix, in-card, in-target)
+
+pub twelve : Twelve
+twelve = (value-1, (value-2, (value-3, (value-4, (value-5, (value-6, (value-7, (value-8, (value-9, (value-10, (value-11, (value-12, tt))))))))))))
