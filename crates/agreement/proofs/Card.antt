@@ -135,6 +135,11 @@ module _ (x y : Cards) (column : ℕ) where
           let h = same .rows row (inside n row l) in
           record { rating = h .ratings (rating-read n row l); day = λ e. h .days (day-read n row l _ _ e); weights = weights row l }
 
+      pub card-record-same : (row : ℕ) → row < n - 1 →
+          recordAt (paramsDef w) (x .table .days) (x .table .ratings) c column row ≡ recordAt (paramsDef v) (y .table .days) (y .table .ratings) (y .table .columns) column row
+      card-record-same row l =
+          record-same w v _ _ _ _ _ column (n - 1) rows row l ∙ ap (λ (m : ℕ). recordAt (paramsDef v) (y .table .days) (y .table .ratings) m column row) (same .columns)
+
       state-same : stateOf (paramsDef w) x column c n ≡ stateOf (paramsDef v) y column c n
       state-same = states-same w v _ _ _ _ _ column (n - 1) rows
 

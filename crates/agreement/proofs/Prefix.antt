@@ -23,7 +23,7 @@ use Rattle.passes.specs.Path.{stateAt, recordAt}
 use Rattle.prefixes.specs.Prefixes.{targetStability, prefixLoss, prefixSlots}
 use Rattle.reads.proofs.Unread.{prefix-row-same, target-same}
 use Rattle.agreement.proofs.Faults.{faults-same}
-use Rattle.agreement.proofs.Path.{Row, states-same}
+use Rattle.agreement.proofs.Path.{Row, states-same, record-same}
 use Rattle.agreement.proofs.Ends.{loss-same, grad-same, slots-same, target-keeps}
 use Rattle.agreement.proofs.Reverse.{back-keeps}
 use Rattle.agreement.proofs.Walk.{walk-same, unscored-still}
@@ -75,6 +75,11 @@ module _ (x y : Prefixes) (column : ℕ) where
         (twenty : w ! 20 ≡ v ! 20) where
       rows : (row : ℕ) → row < n → Row w v (x .table .days) (x .table .ratings) (y .table .days) (y .table .ratings) c column row
       rows row l = record { rating = same .ratings row l; day = same .days row l; weights = weights row l }
+
+      pub prefix-record-same : (row : ℕ) → row < n →
+          recordAt (paramsDef w) (x .table .days) (x .table .ratings) c column row ≡ recordAt (paramsDef v) (y .table .days) (y .table .ratings) (y .table .columns) column row
+      prefix-record-same row l =
+          record-same w v _ _ _ _ _ column n rows row l ∙ ap (λ (m : ℕ). recordAt (paramsDef v) (y .table .days) (y .table .ratings) m column row) (same .columns)
 
       stability : targetStability (paramsDef w) x column ≡ targetStability (paramsDef v) y column
       stability =

@@ -53,6 +53,8 @@ module _ (K : Kind) where
     pub same-cells : (x y : K .Input) → SameInputs x y → (s : Slice) (row column : ℕ) → K .reads x s row column ≡ K .reads y s row column
     pub same-weights : (c d : Call (K .Input)) → Alike c d → (k : ℕ) → weightRead c k ≡ weightRead d k
     pub symmetric : (c d : Call (K .Input)) → Alike c d → Alike d c
+    -- and where it is accepted it may move the same slots
+    pub same-moves : (c d : Call (K .Input)) → Alike c d → K .refusal c ≡ 0 → (k : ℕ) → mayMove c k ≡ mayMove d k
     -- 'In an accepted call every gradient slot that document 01 does not let the taken branches move keeps its bits.'
     pub slot-kept : (c : Call (K .Input)) (k : ℕ) → K .refusal c ≡ 0 → mayMove c k ≡ false → K .slots c ! k ≡ c .gw ! k
     -- A weight that no column reads may take any value inside the box: no loss and no gradient changes, and its own slot stays as it was.

@@ -3,7 +3,7 @@ use Prim.Native.Nat.{ℕ, _-_, _<_}
 use mathlib.Core.Bool.{Bool, true, false, _&&_, cond}
 use mathlib.Core.List.{List}
 use mathlib.Core.Path.{_≡_, refl, sym, ap, _∙_}
-use borrow.Author.Tests.{eq-eqb, eqb-true, ltb-true, lt-ltb}
+use borrow.Author.Tests.{eq-eqb, eqb-true, eqb-false, ltb-true, lt-ltb}
 use lib.Dec.{eqb, leb, ltb}
 use lib.Ieee.{Float}
 use lib.ListN.{length}
@@ -22,15 +22,20 @@ use Rattle.parameters.specs.Params.{paramsDef}
 use Rattle.records.specs.Records.{roomDef}
 use Rattle.forward.proofs.Agreement.{by-cases}
 use Rattle.cards.specs.Cards.{cardLoss, cardSlots, lossOf, cardsLossAndGrad, cardsSlots, cardsLoss}
-use Rattle.agreement.proofs.Card.{inside, rating-read, day-read, CardCells, card-fault-same, card-loss-same, card-slots-same, card-keeps}
+use Rattle.agreement.proofs.Card.{last-inside, card-record-same, inside, rating-read, day-read, CardCells, card-fault-same, card-loss-same, card-slots-same, card-keeps}
 use Rattle.agreement.proofs.Faults.{faults-same}
 use Rattle.agreement.proofs.Columns.{total-same, through-same, through-keeps, longest-same}
-use Rattle.promises.specs.Reads.{Slice, days, ratings, targets, labels, weights, inside as in-table, cardCell, cardReads}
+use Rattle.promises.specs.Reads.{Slice, days, ratings, targets, labels, weights, inside as in-table, cardCell, cardReads, callMoves}
 use Rattle.promises.specs.Calls.{Call, Kind, cardSlice, cards}
 use Rattle.promises.specs.Frozen.{SameInputs, SameWeights, Alike, mayMove, Frozen}
 use Rattle.promises.proofs.reading.Any.{answer-same, weights-read, turned, free}
 use Rattle.promises.proofs.reading.Some.{halves}
-use Rattle.promises.proofs.reading.Steps.{SameSteps, reads-20, agree-row, no-step, no-end}
+use Rattle.promises.proofs.reading.Steps.{SameSteps, reads-20, agree-row, moves-same, no-step, no-end}
+
+-- an empty card has no last row
+no-label : (n : ℕ) (a b : Float) → n ≡ 0 → cardLabel (n - 1) a ≡ cardLabel (n - 1) b
+unfolding cardLabel later
+no-label n a b z = rw z
 
 module _ (x y : Cards) (same : SameInputs cards x y) where
   abbrev c : ℕ
@@ -124,6 +129,20 @@ module _ (x y : Cards) (same : SameInputs cards x y) where
     unfolding cardGradRefusal gradRefusal
     grad-refusal slots r s g h a b = rw (wb, vb, a, b, sized-same, fault-same)
 
+  -- a card's last row is scored where its label is read
+  last-read : (column : ℕ) → column < c → cards .scored x column ≡ cards .scored y column
+  last-read column l = by (eqb (lengthAt (x .table) column) 0) refl
+    where
+      m : ℕ
+      m = lengthAt (x .table) column - 1
+
+      moved : cardLabel m (at (y .table) (y .weights) m column) ≡ cards .scored y column
+      moved = ap (λ (n : ℕ). cardLabel (n - 1) (at (y .table) (y .weights) (n - 1) column)) (length-same column l)
+
+      by : (b : Bool) → b ≡ eqb (lengthAt (x .table) column) 0 → cards .scored x column ≡ cards .scored y column
+      by true e = no-label (lengthAt (x .table) column) _ _ (eqb-true _ 0 (sym e)) ∙ moved
+      by false e = card-label-read _ m _ _ _ _ _ _ _ _ (row-same column l m (last-inside _ (eqb-false _ 0 (sym e)))) ∙ moved
+
   -- ---- the same loss and slots, where the call is accepted
   module _ (w v : List Float) (refusal : ℕ) (given : SameWeights cards refusal x w v) (accepted : eqb refusal 0 ≡ true) where
     twenty : w ! 20 ≡ v ! 20
@@ -134,6 +153,11 @@ module _ (x y : Cards) (same : SameInputs cards x y) where
         total-same _ _ c
         (λ column l. card-loss-same x y column (column-cells column l) w v (λ row m. agree-row (x .table) (cards .steps x) refusal accepted w v (given .weights) (paramsDef w) row column l m) twenty) ∙
         ap (total (cardLoss (paramsDef v) y)) (same .columns)
+
+    pub same-moves : (k : ℕ) → callMoves w (x .table) (cards .steps x) (cards .scored x) k ≡ callMoves v (y .table) (cards .steps y) (cards .scored y) k
+    same-moves k =
+        moves-same w v (x .table) (y .table) (cards .steps x) (cards .steps y) (cards .scored x) (cards .scored y) (same .columns) (same-steps .counts) last-read
+        (λ row column l m. card-record-same x y column (column-cells column l) w v (λ i h. agree-row (x .table) (cards .steps x) refusal accepted w v (given .weights) (paramsDef w) i column l h) twenty row m) k
 
     pub slots-same : (gw : List Float) → through (cardSlots (paramsDef w) x) c gw ≡ through (cardSlots (paramsDef v) y) (y .table .columns) gw
     slots-same gw =
@@ -181,6 +205,7 @@ cards-frozen =
       same-cells = same-cells;
       same-weights = weights-read cards same-cells (λ x y h. same-steps x y h) refusals;
       symmetric = turned cards same-cells (λ x y h. same-steps x y h) refusals;
+      same-moves = λ c d h z k. same-moves (c .x) (d .x) (h .inputs) (c .w) (d .w) (cards .refusal c) (h .weights) (eq-eqb _ 0 z) k;
       slot-kept = kept;
       unread-weight = free cards (λ c d h. (answers c d h, slots c d h)) kept passed (λ c k a. refl);
     }

@@ -24,13 +24,13 @@ use Rattle.forward.proofs.Agreement.{by-cases}
 use Rattle.prefixes.specs.Prefixes.{prefixLoss, prefixSlots, lossOf, batchLossAndGrad, batchSlots, batchLoss}
 use Rattle.agreement.proofs.Faults.{faults-same}
 use Rattle.agreement.proofs.Columns.{total-same, through-same, through-keeps, longest-same}
-use Rattle.agreement.proofs.Prefix.{PrefixCells, prefix-fault-same, prefix-loss-same, prefix-slots-same, prefix-keeps}
+use Rattle.agreement.proofs.Prefix.{PrefixCells, prefix-record-same, prefix-fault-same, prefix-loss-same, prefix-slots-same, prefix-keeps}
 use Rattle.promises.specs.Reads.{Slice, days, ratings, targets, labels, weights, inside, prefixCell, prefixReads, callReads, callMoves}
 use Rattle.promises.specs.Calls.{Call, Kind, prefixSlice, prefixes}
 use Rattle.promises.specs.Frozen.{SameInputs, SameWeights, Alike, mayMove, Frozen}
 use Rattle.promises.proofs.reading.Any.{answer-same, weights-read, turned, free}
 use Rattle.promises.proofs.reading.Some.{halves}
-use Rattle.promises.proofs.reading.Steps.{SameSteps, reads-20, agree-row, no-step, no-end}
+use Rattle.promises.proofs.reading.Steps.{SameSteps, reads-20, agree-row, moves-same, no-step, no-end}
 
 module _ (x y : Prefixes) (same : SameInputs prefixes x y) where
   abbrev c : ℕ
@@ -138,6 +138,11 @@ module _ (x y : Prefixes) (same : SameInputs prefixes x y) where
         (λ column l. prefix-loss-same x y column (column-cells column l) w v (λ row m. agree-row (x .table) (prefixes .steps x) refusal accepted w v (given .weights) (paramsDef w) row column l m) twenty) ∙
         ap (total (prefixLoss (paramsDef v) y)) (same .columns)
 
+    pub same-moves : (k : ℕ) → callMoves w (x .table) (prefixes .steps x) (prefixes .scored x) k ≡ callMoves v (y .table) (prefixes .steps y) (prefixes .scored y) k
+    same-moves k =
+        moves-same w v (x .table) (y .table) (prefixes .steps x) (prefixes .steps y) (prefixes .scored x) (prefixes .scored y) (same .columns) (same-steps .counts) (λ column l. ap nonZero (weight-same column l))
+        (λ row column l m. prefix-record-same x y column (column-cells column l) w v (λ i h. agree-row (x .table) (prefixes .steps x) refusal accepted w v (given .weights) (paramsDef w) i column l h) twenty row m) k
+
     pub slots-same : (gw : List Float) → through (prefixSlots (paramsDef w) x) c gw ≡ through (prefixSlots (paramsDef v) y) (y .table .columns) gw
     slots-same gw =
         through-same _ _ c
@@ -184,6 +189,7 @@ prefixes-frozen =
       same-cells = same-cells;
       same-weights = weights-read prefixes same-cells (λ x y h. same-steps x y h) refusals;
       symmetric = turned prefixes same-cells (λ x y h. same-steps x y h) refusals;
+      same-moves = λ c d h z k. same-moves (c .x) (d .x) (h .inputs) (c .w) (d .w) (prefixes .refusal c) (h .weights) (eq-eqb _ 0 z) k;
       slot-kept = kept;
       unread-weight = free prefixes (λ c d h. (answers c d h, slots c d h)) kept passed (λ c k a. refl);
     }

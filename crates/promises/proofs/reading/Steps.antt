@@ -15,6 +15,7 @@ use Rattle.parameters.specs.Params.{paramsDef}
 use Rattle.parameters.specs.declared.RuntimeParams.{RuntimeParams}
 use Rattle.forward.specs.Reads.{among, firstWeights, reviewReads, stepReads, Agree}
 use Rattle.forward.specs.Step.{noState, isFirst, ratingNumber}
+use Rattle.forward.specs.declared.step.StepRecord.{StepRecord}
 use Rattle.forward.proofs.Agreement.{by-cases}
 use Rattle.backward.specs.Moves.{slotsOf}
 use Rattle.passes.specs.Path.{stateAt, recordAt}
@@ -130,3 +131,25 @@ module _ (w : List Float) (t : Table) (steps : ℕ → ℕ) (scored : ℕ → Bo
   pub no-end : eqb k 20 && scored column ≡ false
   unfolding columnMoves
   no-end = or-right (some _ (steps column)) (eqb k 20 && scored column) no-column
+
+-- two calls whose steps leave the same records, and whose ends are scored alike
+module _ (w v : List Float) (t u : Table) (steps steps′ : ℕ → ℕ) (scored scored′ : ℕ → Bool) (columns : t .columns ≡ u .columns)
+    (counts : (column : ℕ) → column < t .columns → steps column ≡ steps′ column) (ends : (column : ℕ) → column < t .columns → scored column ≡ scored′ column)
+    (records :
+    (row column : ℕ) → column < t .columns → row < steps column →
+    recordAt (paramsDef w) (t .days) (t .ratings) (t .columns) column row ≡ recordAt (paramsDef v) (u .days) (u .ratings) (u .columns) column row) (k : ℕ) where
+  abbrev moved : (w : List Float) (t : Table) (column row : ℕ) → Bool
+  moved w t column row = let c = recordAt (paramsDef w) (t .days) (t .ratings) (t .columns) column row in among k (slotsOf (c .branch) (c .rating))
+
+  column-same : (column : ℕ) → column < t .columns → columnMoves w t column (steps column) (scored column) k ≡ columnMoves v u column (steps′ column) (scored′ column) k
+  unfolding columnMoves
+  column-same column l =
+      rw (
+        some-same (moved w t column) (moved v u column) (steps column) (λ row m. ap (λ (c : StepRecord). among k (slotsOf (c .branch) (c .rating))) (records row column l m)),
+        counts column l,
+        ends column l,
+      )
+
+  pub moves-same : callMoves w t steps scored k ≡ callMoves v u steps′ scored′ k
+  unfolding callMoves
+  moves-same = some-same _ _ (t .columns) column-same ∙ ap (some (λ column. columnMoves v u column (steps′ column) (scored′ column) k)) columns
