@@ -19,12 +19,12 @@ its pattern, and every NaN among the answers is 7ff8000000000000 or, of an f32, 
     P p  pack_f64 pack_f32     negative q sticky e -> r          (e in two's complement)
     D d  decode_f64 decode_f32 x 0 -> class negative significand exponent
     *    wide::product         u v             0 0 -> high low
-    < >  wide::shl wide::shr   high low n      0 -> high low
-    %    wide::lost            high low n      0 -> 0 or 1
+    < >  shifts::shl shr       high low n      0 -> high low
+    %    shifts::lost          high low n      0 -> 0 or 1
     + -  wide::sum difference  high low high low -> high low
     ?    wide::less            high low high low -> 0 or 1
-    g    wide::digits64        x               0 0 0 -> digits
-    G    wide::digits          high low        0 0 -> digits
+    g    shifts::digits64      x               0 0 0 -> digits
+    G    shifts::digits        high low        0 0 -> digits
 
 Classes: 0 a NaN, 1 an infinity, 2 a zero, 3 a subnormal, 4 a normal number.
 """
@@ -35,9 +35,9 @@ from vectors import Lines, below, between, either, seeded
 
 NAMES = {
     "F": "fma_f64", "f": "fma_f32", "R": "round_f64", "r": "round_f32", "n": "narrow", "P": "pack_f64",
-    "p": "pack_f32", "D": "decode_f64", "d": "decode_f32", "*": "wide::product", "<": "wide::shl",
-    ">": "wide::shr", "%": "wide::lost", "+": "wide::sum", "-": "wide::difference", "?": "wide::less",
-    "g": "wide::digits64", "G": "wide::digits",
+    "p": "pack_f32", "D": "decode_f64", "d": "decode_f32", "*": "wide::product", "<": "shifts::shl",
+    ">": "shifts::shr", "%": "shifts::lost", "+": "wide::sum", "-": "wide::difference", "?": "wide::less",
+    "g": "shifts::digits64", "G": "shifts::digits",
 }
 WORD = 1 << 64
 

@@ -1,5 +1,4 @@
-// The checks of a loss call, all before its first write: sizes, then the cells that it reads.
+// The checks of a loss call with its gradient, all before its first write: sizes, then the cells that it reads. Those of a
+// call for the loss alone are in `loss_checks`.
 pub mod card_grad;
-pub mod card_loss;
 pub mod prefix_grad;
-pub mod prefix_loss;

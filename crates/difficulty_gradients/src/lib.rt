@@ -2,7 +2,7 @@
 ghost use mathlib.Core.Path.{_≡_};
 ghost use Prim.Native.Nat.{_-_};
 ghost use Rattle.difficulty_gradients.specs.Difficulty.{difficultyParts, difficultySlots, difficultyGrad, meanGrad, difficultyBack, difficultyMoved, initSlots, initMoved};
-use domain::limits::rating_offset;
+use difficulties::rating_offset;
 use exp::exp_f64;
 use parameters::RuntimeParams;
 use parameters::init_difficulty;

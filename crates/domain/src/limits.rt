@@ -1,8 +1,7 @@
-// The numbers of the domain: `simulation.rs`'s ends of stability and difficulty, and document 01's days.
+// The numbers of the domain: `simulation.rs`'s ends of stability, and document 01's days.
 ghost use mathlib.Core.Path.{_≡_};
-ghost use Prim.Native.Nat.{_-_};
 ghost use Rattle.domain.specs.Floats.{clampDef, maxDef};
-ghost use Rattle.domain.specs.Limits.{zero32, S_MIN, S_MAX, D_MIN, D_MAX, ratingOffset, dayGood, stabilityGood, difficultyGood};
+ghost use Rattle.domain.specs.Limits.{zero32, S_MIN, S_MAX, dayGood, stabilityGood};
 use crate::floats::clamp;
 use crate::floats::is_within;
 use crate::floats::max;
@@ -11,25 +10,7 @@ const S_MIN: f32 = 0.0001;
 
 const S_MAX: f32 = 36500.0;
 
-const D_MIN: f32 = 1.0;
-
-const D_MAX: f32 = 10.0;
-
 const DAY_MAX: f32 = 100000.0;
-
-// rating.saturating_sub(1)
-fn less_one(rating: u32) -> u32
-    ensures { λ r. ⌜ r ≡ rating - 1 ⌝ }
-{
-    if rating == 0 { 0 } else { rating - 1 }
-}
-
-// rating.saturating_sub(1) as f32
-pub fn rating_offset(rating: u32) -> f32
-    ensures { λ r. ⌜ r ≡ ratingOffset rating ⌝ }
-{
-    std::num::nearest_u32_to_f32(less_one(rating))
-}
 
 // s.max(S_MIN)
 pub fn floor_stability(s: f32) -> f32
@@ -51,22 +32,10 @@ pub fn clamp_interval(s: f32) -> f32
     clamp(s, 0.0, S_MAX)
 }
 
-pub fn clamp_difficulty(d: f32) -> f32
-    ensures { λ r. ⌜ r ≡ clampDef d D_MIN D_MAX ⌝ }
-{
-    clamp(d, D_MIN, D_MAX)
-}
-
 pub fn is_stability(s: f32) -> bool
     ensures { λ r. ⌜ r ≡ stabilityGood s ⌝ }
 {
     is_within(s, S_MIN, S_MAX)
-}
-
-pub fn is_difficulty(d: f32) -> bool
-    ensures { λ r. ⌜ r ≡ difficultyGood d ⌝ }
-{
-    is_within(d, D_MIN, D_MAX)
 }
 
 pub fn is_day(t: f32) -> bool

@@ -85,7 +85,7 @@ fn words(w: Wide) -> Words
     ensures { λ r. ⌜ Holds 50 (valueOf w) r ⌝ }
 {
     let low = w.low & 0xffff_ffff;
-    let v = wide::shr(w, 32);
+    let v = shifts::shr(w, 32);
     Words { high: v.low, low }
 }
 

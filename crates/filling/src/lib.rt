@@ -3,11 +3,11 @@ ghost use mathlib.Core.Path.{_≡_};
 ghost use mathlib.Core.Bool.{true};
 ghost use lib.ListN.{length};
 ghost use Rattle.filling.specs.Filling.{lengthGood, fill17, fill19, fillDef, unfilled, fillAnswer};
+use defaults::all_finite;
+use defaults::default_weights;
 use fma::fma_f32;
 use ln_pow::ln::ln_f32;
-use weights::all_finite;
 use weights::copy_weights;
-use weights::default_weights;
 use weights::weights_refusal;
 
 const FSRS5_DEFAULT_DECAY: f32 = 0.5;

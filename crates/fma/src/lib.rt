@@ -56,7 +56,7 @@ fn full(digits: u64, places: u64) -> Scaled
     requires { ⌜ (0 < digits) × (digits < 2 ^ 53) × (places < 2 ^ 11) ⌝ }
     ensures { λ r. ⌜ Full digits places r ⌝ }
 {
-    let z = wide::digits64(digits);
+    let z = shifts::digits64(digits);
     Scaled {
         digits: digits << (53 - z),
         places: places + z,
@@ -71,9 +71,9 @@ fn merge(sb: bool, big: Wide, ss: bool, small: Wide, d: u64, e: u64) -> Sum
 {
     let room = least(d, 20);
     let far = d - room;
-    let b = wide::shl(big, room);
-    let s = wide::shr(small, far);
-    let sticky = wide::lost(small, far);
+    let b = shifts::shl(big, room);
+    let s = shifts::shr(small, far);
+    let sticky = shifts::lost(small, far);
     let places = e - room;
     if sb == ss {
         let whole = wide::sum(b, s);
@@ -134,7 +134,7 @@ fn halves(w: Wide, sticky: bool) -> Wide
     requires { ⌜ valueOf w < 2 ^ 127 ⌝ }
     ensures { λ r. ⌜ valueOf r ≡ valueOf w * 2 + cond sticky 1 0 ⌝ }
 {
-    let a = wide::shl(w, 1);
+    let a = shifts::shl(w, 1);
     let low = bit(sticky);
     wide::sum(a, Wide { high: 0, low })
 }

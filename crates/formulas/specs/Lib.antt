@@ -1,2 +1,1 @@
-pub mod Difficulty
 pub mod State

@@ -8,7 +8,7 @@ use Rattle.domain.specs.Floats.{clampDef}
 use Rattle.domain.specs.Limits.{zero32, S_MIN, S_MAX, D_MIN, D_MAX}
 use Rattle.curve_formulas.specs.Curve.{daysDef, curveDef}
 use Rattle.stability_formulas.specs.Stability.{successDef, failureDef, shortTermDef}
-use Rattle.formulas.specs.Difficulty.{nextDifficultyDef}
+use Rattle.difficulty_formulas.specs.Difficulty.{nextDifficultyDef}
 use Rattle.formulas.specs.declared.state.MemoryState.{MemoryState}
 
 -- rating.clamp(1, 4)

@@ -1,10 +1,10 @@
 // A card's memory state, and what a review makes of it.
 ghost use mathlib.Core.Path.{_≡_};
 ghost use Rattle.formulas.specs.State.{afterDef, clampRating, nextStateDef};
-use crate::difficulty::next_difficulty;
 use curve_formulas::power_forgetting_curve;
 use curve_formulas::whole_days;
-use domain::limits::clamp_difficulty;
+use difficulties::clamp_difficulty;
+use difficulty_formulas::next_difficulty;
 use domain::limits::clamp_stability;
 use stability_formulas::stability_after_failure;
 use stability_formulas::stability_after_success;

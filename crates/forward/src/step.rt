@@ -9,7 +9,7 @@ use branches::stability::lapse;
 use branches::stability::same_day;
 use branches::stability::success;
 use curves::curve_forward;
-use domain::limits::clamp_difficulty;
+use difficulties::clamp_difficulty;
 use domain::limits::clamp_stability;
 use parameters::RuntimeParams;
 use parameters::init_difficulty;

@@ -1,11 +1,11 @@
 // The C functions of the first difficulty, the mean reversion and the next difficulty.
 ghost use mathlib.Core.Path.{_≡_};
-ghost use Rattle.formulas.specs.Difficulty.{initDifficultyDef, meanReversionDef, nextDifficultyDef};
+ghost use Rattle.difficulty_formulas.specs.Difficulty.{initDifficultyDef, meanReversionDef, nextDifficultyDef};
 ghost use Rattle.scalars.specs.Answers.{meanGood, nextDifficultyGood, ratingGood, scalarDef};
 ghost use Rattle.places.specs.Places.{written};
-use model_v6::difficulty::init_difficulty_scalar;
-use model_v6::difficulty::mean_reversion_scalar;
-use model_v6::difficulty::next_difficulty_scalar;
+use difficulty_v6::init_difficulty_scalar;
+use difficulty_v6::mean_reversion_scalar;
+use difficulty_v6::next_difficulty_scalar;
 use places::put_f32;
 
 #[no_mangle]

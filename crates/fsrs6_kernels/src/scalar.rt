@@ -1,18 +1,12 @@
 // The scalar functions, single and double. exp, ln and pow answer a NaN, refusal 10, outside their domain and nowhere else.
 use exp::exp_f32;
 use exp::exp_f64;
-use fma::fma_f32;
-use fma::fma_f64;
-use half_away::round_f32;
-use half_away::round_f64;
 use ln_pow::ln::ln_f32;
 use ln_pow::ln::ln_f64;
 use ln_pow::pow::pow_f32;
 use ln_pow::pow::pow_f64;
 ghost use mathlib.Core.Path.{_≡_};
 ghost use lib.Ieee.{binary32, binary64};
-ghost use Rattle.fma.specs.Fma.{fmaDef};
-ghost use Rattle.half_away.specs.HalfAway.{roundDef};
 ghost use Rattle.kernels.specs.Kernels.{expDef, lnDef, powDef};
 
 #[no_mangle]
@@ -55,32 +49,4 @@ pub extern "C" fn fsrs_pow_f64(x: f64, y: f64) -> f64
     ensures { λ r. ⌜ r ≡ powDef binary64 x y ⌝ }
 {
     pow_f64(x, y)
-}
-
-#[no_mangle]
-pub extern "C" fn fsrs_fma_f32(x: f32, y: f32, z: f32) -> f32
-    ensures { λ r. ⌜ r ≡ fmaDef binary32 x y z ⌝ }
-{
-    fma_f32(x, y, z)
-}
-
-#[no_mangle]
-pub extern "C" fn fsrs_fma_f64(x: f64, y: f64, z: f64) -> f64
-    ensures { λ r. ⌜ r ≡ fmaDef binary64 x y z ⌝ }
-{
-    fma_f64(x, y, z)
-}
-
-#[no_mangle]
-pub extern "C" fn fsrs_round_f32(x: f32) -> f32
-    ensures { λ r. ⌜ r ≡ roundDef binary32 x ⌝ }
-{
-    round_f32(x)
-}
-
-#[no_mangle]
-pub extern "C" fn fsrs_round_f64(x: f64) -> f64
-    ensures { λ r. ⌜ r ≡ roundDef binary64 x ⌝ }
-{
-    round_f64(x)
 }

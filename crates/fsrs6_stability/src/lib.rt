@@ -4,9 +4,9 @@ ghost use Rattle.stability_formulas.specs.Stability.{successDef, failureDef, sh
 ghost use Rattle.scalars.specs.Answers.{successGood, failureGood, shortTermGood, scalarDef};
 ghost use Rattle.places.specs.Places.{written};
 use places::put_f32;
-use review_v6::stability::stability_after_failure_scalar;
-use review_v6::stability::stability_after_success_scalar;
-use review_v6::stability::stability_short_term_scalar;
+use stability_v6::stability_after_failure_scalar;
+use stability_v6::stability_after_success_scalar;
+use stability_v6::stability_short_term_scalar;
 
 #[no_mangle]
 pub extern "C" fn fsrs_stability_after_success(

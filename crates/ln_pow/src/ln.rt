@@ -30,7 +30,7 @@ fn lead(high: u64, low: u64) -> Scaled
     requires { ⌜ (2 ^ 30 ≤ high) × (high < 2 ^ 50) × (low < 2 ^ 32) ⌝ }
     ensures { λ r. ⌜ Led (high * 2 ^ 32 + low) r ⌝ }
 {
-    let z = wide::digits64(high);
+    let z = shifts::digits64(high);
     let n = z - 30;
     let m = 32 - n;
     let a = high << m;

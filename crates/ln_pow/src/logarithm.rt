@@ -30,7 +30,7 @@ fn gap_of(m: u64, i: u64) -> u64
     ensures { λ r. ⌜ (r ≡ gap i m) × (r ≤ 2 ^ 63) ⌝ }
 {
     let p = wide::product(m, entry_at(256 - i));
-    let q = wide::shr(p, 61);
+    let q = shifts::shr(p, 61);
     std::num::wrapping_sub_u64(0, q.low)
 }
 
@@ -48,7 +48,7 @@ fn scaled(g: u64, p: u64) -> u64
     requires { ⌜ g ≤ 2 ^ 63 ⌝ }
     ensures { λ r. ⌜ r ≡ g * p / 2 ^ 63 ⌝ }
 {
-    let w = wide::shr(wide::product(g, p), 63);
+    let w = shifts::shr(wide::product(g, p), 63);
     w.low
 }
 
@@ -95,7 +95,7 @@ fn words(negative: bool, w: Wide) -> Log
     ensures { λ r. ⌜ Logged (record { negative = negative; mag = valueOf w }) r ⌝ }
 {
     let low = w.low & 0xffff_ffff;
-    let v = wide::shr(w, 32);
+    let v = shifts::shr(w, 32);
     Log {
         negative,
         high: v.low,
@@ -153,7 +153,7 @@ fn log_units(digits: u64, places: u64, double: bool) -> Log
     requires { ⌜ (0 < digits) × (digits < 2 ^ 53) × (places < 2 ^ 11) ⌝ }
     ensures { λ r. ⌜ Logged (logUnits (cond double binary64 binary32) digits places) r ⌝ }
 {
-    let z = wide::digits64(digits);
+    let z = shifts::digits64(digits);
     let m = digits << (63 - z);
     log_at(m, exponent(z, places), double)
 }

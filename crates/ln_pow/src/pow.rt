@@ -35,8 +35,8 @@ pub(crate) fn times(digits: u64, places: u64, high: u64, low: u64) -> Wide
 {
     let a = wide::product(digits, high);
     let b = wide::product(digits, low);
-    let s = wide::sum(a, wide::shr(b, 32));
-    wide::shr(s, 1042 - places)
+    let s = wide::sum(a, shifts::shr(b, 32));
+    shifts::shr(s, 1042 - places)
 }
 
 pub fn pow_f64(x: f64, y: f64) -> f64

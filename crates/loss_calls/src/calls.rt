@@ -1,13 +1,13 @@
 // The four entries on a call's slices. An entry leaves out what it does not take.
-use crate::words::length_at;
-use crate::words::set_lengths;
-use crate::words::set_singles;
 use card_losses::card_loss;
 use cards::grad::card_loss_and_grad;
 use ends::Loss;
 use prefix_losses::batch_loss;
 use prefixes::grad::batch_loss_and_grad;
 use vectors::patterns::u32_of;
+use vectors::slices::length_at;
+use vectors::slices::set_lengths;
+use vectors::slices::set_singles;
 
 // Where a call's slices stand, and what follows them.
 pub struct Places {

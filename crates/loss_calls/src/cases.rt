@@ -1,18 +1,18 @@
 // A line's call over the weights and the starting slots that lines above it set, and over records and step
 // gradients of its own. After its slices it has seven words: how many records are lent and the pattern of
 // the first, the same of the step gradients, and the answer.
-use crate::answers::digest;
 use crate::answers::is_answer;
 use crate::calls::Places;
 use crate::calls::call;
 use crate::calls::first_of;
-use crate::words::after;
-use crate::words::count_doubles;
-use crate::words::count_singles;
-use crate::words::length_at;
-use crate::words::set_doubles;
-use crate::words::set_singles;
-use crate::words::word_at;
+use vectors::digests::digest;
+use vectors::slices::after;
+use vectors::slices::count_doubles;
+use vectors::slices::count_singles;
+use vectors::slices::length_at;
+use vectors::slices::set_doubles;
+use vectors::slices::set_singles;
+use vectors::slices::word_at;
 
 fn places(k: &[u64; 640]) -> Places {
     let days = 2;

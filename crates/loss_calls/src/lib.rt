@@ -3,18 +3,17 @@
 mod answers;
 mod calls;
 mod cases;
-mod words;
 
 use crate::cases::is_call;
 use crate::cases::passes;
-use crate::words::copy_words;
-use crate::words::is_slice;
 use vectors::counts::count;
 use vectors::counts::print_counts;
 use vectors::line::is_remark;
 use vectors::line::read_free_line;
 use vectors::line::read_free_words;
 use vectors::line::row_of;
+use vectors::slices::copy_words;
+use vectors::slices::is_slice;
 
 // No line has more bytes.
 const LENGTH: usize = 5000;

@@ -10,10 +10,10 @@ use Rattle.fsrs6_kernels.proofs.scalar.fsrs_ln_f32
 use Rattle.fsrs6_kernels.proofs.scalar.fsrs_ln_f64
 use Rattle.fsrs6_kernels.proofs.scalar.fsrs_pow_f32
 use Rattle.fsrs6_kernels.proofs.scalar.fsrs_pow_f64
-use Rattle.fsrs6_kernels.proofs.scalar.fsrs_fma_f32
-use Rattle.fsrs6_kernels.proofs.scalar.fsrs_fma_f64
-use Rattle.fsrs6_kernels.proofs.scalar.fsrs_round_f32
-use Rattle.fsrs6_kernels.proofs.scalar.fsrs_round_f64
+use Rattle.fsrs6_rounding.proofs.fsrs_fma_f32
+use Rattle.fsrs6_rounding.proofs.fsrs_fma_f64
+use Rattle.fsrs6_rounding.proofs.fsrs_round_f32
+use Rattle.fsrs6_rounding.proofs.fsrs_round_f64
 use Rattle.fsrs6_formulas.proofs.curve.fsrs_power_forgetting_curve
 use Rattle.fsrs6_formulas.proofs.curve.fsrs_next_interval
 use Rattle.fsrs6_formulas.proofs.state.fsrs_next_state

@@ -4,14 +4,14 @@ use Rattle.outcomes.specs.Outcome.{One, one}
 use Rattle.outcomes.proofs.Tuples.{_⨾_, none, end}
 use Rattle.outcomes.proofs.Words.{words}
 use Rattle.wide.proofs.product
-use Rattle.wide.proofs.shl
-use Rattle.wide.proofs.shr
-use Rattle.wide.proofs.lost
+use Rattle.shifts.proofs.shl
+use Rattle.shifts.proofs.shr
+use Rattle.shifts.proofs.lost
 use Rattle.wide.proofs.sum
 use Rattle.wide.proofs.difference
 use Rattle.wide.proofs.less
-use Rattle.wide.proofs.digits64
-use Rattle.wide.proofs.digits
+use Rattle.shifts.proofs.digits64
+use Rattle.shifts.proofs.digits
 use Rattle.parts.proofs.decode.decode_f64
 use Rattle.parts.proofs.decode.decode_f32
 use Rattle.parts.proofs.units.pattern

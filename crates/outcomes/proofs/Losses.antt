@@ -23,9 +23,9 @@ use Rattle.sizes.proofs.longest
 use Rattle.sizes.proofs.prefix_sized
 use Rattle.sizes.proofs.card_sized
 use Rattle.checks.proofs.card_grad.card_grad_refusal
-use Rattle.checks.proofs.card_loss.card_loss_refusal
+use Rattle.loss_checks.proofs.card_loss.card_loss_refusal
 use Rattle.checks.proofs.prefix_grad.prefix_grad_refusal
-use Rattle.checks.proofs.prefix_loss.prefix_loss_refusal
+use Rattle.loss_checks.proofs.prefix_loss.prefix_loss_refusal
 use Rattle.scores.proofs.bce_loss_and_grad_r
 use Rattle.records.proofs.room
 use Rattle.records.proofs.store_step

@@ -1,7 +1,7 @@
 // The weights of a run, and what is worked out of them once.
 ghost use mathlib.Core.Path.{_≡_};
 ghost use Rattle.parameters.specs.Params.{curveFactor, curveSlope, initDifficulty, paramsDef};
-use domain::limits::rating_offset;
+use difficulties::rating_offset;
 use exp::exp_f32;
 use exp::exp_f64;
 use ln_pow::ln::ln_f32;

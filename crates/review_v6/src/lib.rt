@@ -1,3 +1,2 @@
-// model_v6.rs, what a review does: the stability and the state after it. The public functions are as those of `model_v6`.
-pub mod stability;
+// model_v6.rs, the state after a review. The public function is as those of `model_v6`.
 pub mod state;

@@ -4,7 +4,7 @@ ghost use mathlib.Core.Bool.{cond};
 ghost use Rattle.domain.specs.Doubles.{zero64, one64};
 ghost use Rattle.domain.specs.Limits.{S_MIN, S_MAX, D_MIN, D_MAX};
 ghost use Rattle.slots.specs.Slots.{bump, bumpIf, clampGrad};
-use domain::limits::is_difficulty;
+use difficulties::is_difficulty;
 use domain::limits::is_stability;
 
 // gw[i] += value, where there is such a slot.

@@ -5,7 +5,7 @@ ghost use Prim.Native.Nat.{_+_, _-_, _*_, _^_, _≤_, _<_, min};
 ghost use lib.Ieee.{round, binary32, binary64};
 ghost use lib.Ieee.Nearest.{closest};
 ghost use Rattle.rounding.proofs.Place.{placedBits};
-use wide::digits64;
+use shifts::digits64;
 
 // The smaller of the two.
 pub fn least(a: u64, b: u64) -> u64

@@ -12,9 +12,9 @@ use wide::Wide;
 pub fn squeeze(w: Wide, sticky: bool) -> Scaled
     ensures { λ r. ⌜ r ≡ squeezeDef (valueOf w) sticky ⌝ }
 {
-    let n = excess(wide::digits(w), 62);
-    let q = wide::shr(w, n);
-    let rest = either(sticky, wide::lost(w, n));
+    let n = excess(shifts::digits(w), 62);
+    let q = shifts::shr(w, n);
+    let rest = either(sticky, shifts::lost(w, n));
     Scaled {
         digits: q.low * 2 + bit(rest),
         places: n,

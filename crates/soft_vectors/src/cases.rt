@@ -130,14 +130,14 @@ fn soft_passes(row: usize, k: Case) -> bool {
 fn wide_passes(row: usize, k: Case) -> bool {
     match row {
         9 => same_wide(wide::product(k.a, k.b), k),
-        10 => same_wide(wide::shl(first(k), k.c), k),
-        11 => same_wide(wide::shr(first(k), k.c), k),
-        12 => pattern_bool(wide::lost(first(k), k.c)) == k.r,
+        10 => same_wide(shifts::shl(first(k), k.c), k),
+        11 => same_wide(shifts::shr(first(k), k.c), k),
+        12 => pattern_bool(shifts::lost(first(k), k.c)) == k.r,
         13 => same_wide(wide::sum(first(k), second(k)), k),
         14 => same_wide(wide::difference(first(k), second(k)), k),
         15 => pattern_bool(wide::less(first(k), second(k))) == k.r,
-        16 => wide::digits64(k.a) == k.r,
-        17 => wide::digits(first(k)) == k.r,
+        16 => shifts::digits64(k.a) == k.r,
+        17 => shifts::digits(first(k)) == k.r,
         _ => false,
     }
 }

@@ -50,8 +50,8 @@ fn run_lines(passed: &mut [u64; 19], tried: &mut [u64; 19], first: &mut u64) {
 fn print(passed: &[u64; 19], tried: &[u64; 19], first: u64) {
     let names =
         b"fma_f64 fma_f32 round_f64 round_f32 narrow pack_f64 pack_f32 decode_f64 decode_f32 \
-        wide::product wide::shl wide::shr wide::lost wide::sum wide::difference wide::less \
-        wide::digits64 wide::digits malformed ";
+        wide::product shifts::shl shifts::shr shifts::lost wide::sum wide::difference wide::less \
+        shifts::digits64 shifts::digits malformed ";
     print_counts(names, passed, tried, first);
 }
 

@@ -3,4 +3,3 @@ pub mod Columns
 pub mod Shifts
 pub mod Carries
 pub mod Tests
-pub mod Sizes

@@ -1,0 +1,2 @@
+-- The digits of one word and of two.
+pub mod Sizes
