@@ -19,7 +19,7 @@ use Rattle.values.proofs.Known.{Known}
 use Rattle.values.proofs.Defaults.{single, boxed, first-state}
 use Rattle.values.proofs.Steps.{Ready, same-stability, same-branch, lapse-stability, lapse-branch, early-stability, same-difficulty}
 use Rattle.promises.specs.Twelve.{Weights, InRange, Value1, Value2, Value3, Value4, Value5, Value6, Value7, Value8, Value9, Value10, Value11, Value12, NextDay, InPrefix, InCard, InTarget, last, next, Twelve}
-use Rattle.promises.proofs.Values.{exp-zero, pow-one, pow-zero, pow-at-most-one}
+use Rattle.distances.proofs.Values.{exp-zero, pow-one, pow-zero, pow-at-most-one}
 
 -- ---- the kernels
 value-1 : Value1

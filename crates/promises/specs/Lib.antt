@@ -1,5 +1,5 @@
 pub mod Calls
 pub mod Frozen
-pub mod Kernels
+pub mod Promises
 pub mod Reads
 pub mod Twelve

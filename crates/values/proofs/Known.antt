@@ -1,4 +1,4 @@
--- The exact values of exp and pow in singles, which `promises` proves and hands to the laws here. Assumes nothing.
+-- The exact values of exp and pow in singles, which `distances` proves and `promises` hands to the laws here. Assumes nothing.
 use mathlib.Core.Path.{_≡_}
 use mathlib.Core.Bool.{Bool, false}
 use Prim.Native.Nat.{ℕ, suc}

@@ -8,7 +8,7 @@ use lib.Ieee.{Float, nan, inf, fin, Format, prec, emax, low, size, nearest, odd,
 use Rattle.exact.specs.Exact.{N}
 use Rattle.kernels.specs.Core.{biased, mantissa, logarithm}
 use Rattle.kernels.specs.Kernels.{finish, fromPower, cut, powered, expDef, lnDef, powDef}
-use Rattle.promises.specs.Kernels.{ExpRefuses, LnRefuses, PowRefuses}
+use Rattle.distances.specs.Kernels.{ExpRefuses, LnRefuses, PowRefuses}
 
 either : (b : Bool) (x y : Float) → isNan x ≡ false → isNan y ≡ false → isNan (cond b x y) ≡ false
 either true x y h g = h

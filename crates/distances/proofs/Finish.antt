@@ -15,7 +15,7 @@ use Rattle.kernels.specs.Kernels.{finish}
 use Rattle.kernels.proofs.Cases.{at-mid}
 use Rattle.rounding.proofs.Closest.{closest-near}
 use Rattle.rounding.proofs.Place.{Range, placed-value, kept-le}
-use Rattle.promises.specs.Kernels.{Near, powerBits, reach}
+use Rattle.distances.specs.Kernels.{Near, powerBits, reach}
 
 ruleset ac = (mul-assoc, mul-comm, mul-left-comm)
 

@@ -11,7 +11,7 @@ use Rattle.exact.proofs.Poly.{h, scale}
 use Rattle.exact.proofs.Laws.{sub, fits, near, h-scale, h-shift}
 use Rattle.exact.proofs.Below.{deg, dL, tcoef}
 use Rattle.exact.proofs.Fixed.{fx, fx-le, le-fx}
-use Rattle.promises.proofs.logarithm.Sum.{Ln, Ld}
+use Rattle.distances.proofs.logarithm.Sum.{Ln, Ld}
 
 horner-is : (cs : List ℕ) (x : ℕ) → horner cs x ≡ fx cs x (2 ^ 64)
 unfolding horner fx

@@ -11,11 +11,11 @@ use Rattle.rounding.proofs.Pattern.{pow-lt-back, pow-le-back}
 use Rattle.rounding.proofs.Place.{normalised-lt, normalised-ge}
 use Rattle.kernels.specs.Core as Core
 use Rattle.kernels.specs.Core.{gap, below, index, moved, logarithm}
-use Rattle.promises.proofs.logarithm.Sum.{Ln, Ld, Ld-pos, L-small}
-use Rattle.promises.proofs.logarithm.Horner.{lg, below-is, lg-le}
-use Rattle.promises.proofs.logarithm.Table.{found}
-use Rattle.promises.proofs.logarithm.Core.{gap-small}
-use Rattle.promises.proofs.logarithm.Moved.{lead-le, digits-in}
+use Rattle.distances.proofs.logarithm.Sum.{Ln, Ld, Ld-pos, L-small}
+use Rattle.distances.proofs.logarithm.Horner.{lg, below-is, lg-le}
+use Rattle.distances.proofs.logarithm.Table.{found}
+use Rattle.distances.proofs.logarithm.Core.{gap-small}
+use Rattle.distances.proofs.logarithm.Moved.{lead-le, digits-in}
 
 below-small : (f : Format) (g : ℕ) → g * 2560 ≤ 7 * 2 ^ 64 → 256 * below f g ≤ 2 ^ 64
 below-small f g l = rw (below-is f g) (through (lg f g (2 ^ 64)) (Ln f g (2 ^ 64)) (Ld f (2 ^ 64)) (2 ^ 64) (Ld-pos f (2 ^ 64) (lit≤ tt)) (lg-le f g (2 ^ 64) l) (L-small f g (2 ^ 64) l))

@@ -11,11 +11,11 @@ use Rattle.exact.proofs.Chain.{ac}
 use Rattle.exact.proofs.Taylor.{P-num, P-den}
 use Rattle.exact.proofs.Near.{P-one, P-den-pos}
 use Rattle.kernels.specs.Core.{BIAS, biased, mantissa}
-use Rattle.promises.proofs.Finish.{coreBits}
-use Rattle.promises.proofs.Cores.{slack, PowerNear, MantissaIn}
-use Rattle.promises.proofs.power.Mantissa.{loss, mantissa-le, le-mantissa, mantissa-low, mantissa-high}
-use Rattle.promises.proofs.power.Steps.{unit, value, denom, value-is, denom-is, close}
-use Rattle.promises.proofs.power.Places.{Placed, place, placed, whole, over, index-lt, rest-lt, parts, over-lt}
+use Rattle.distances.proofs.Finish.{coreBits}
+use Rattle.distances.proofs.Cores.{slack, PowerNear, MantissaIn}
+use Rattle.distances.proofs.power.Mantissa.{loss, mantissa-le, le-mantissa, mantissa-low, mantissa-high}
+use Rattle.distances.proofs.power.Steps.{unit, value, denom, value-is, denom-is, close}
+use Rattle.distances.proofs.power.Places.{Placed, place, placed, whole, over, index-lt, rest-lt, parts, over-lt}
 
 -- the slack of the argument is 1 / share of one
 abbrev share : Format → ℕ

@@ -17,7 +17,7 @@ use Rattle.exact.proofs.Sums.{sum-le, prod-le}
 use Rattle.exact.proofs.Near.{h-grows, P-one}
 use Rattle.table.specs.Entry.{entry}
 use Rattle.kernels.specs.Core.{ups, horner, mantissa}
-use Rattle.promises.proofs.power.Polynomial.{tail, frac, Q, den, den-pos, poly-le, le-poly, frac-small}
+use Rattle.distances.proofs.power.Polynomial.{tail, frac, Q, den, den-pos, poly-le, le-poly, frac-small}
 
 -- what the missing terms, the cuts of the chain and two more cuts can take from M
 abbrev pub loss : Format → ℕ

@@ -19,9 +19,9 @@ use Rattle.table.specs.Entry.{entry}
 use Rattle.kernels.specs.Core.{firstFrom, horner, index, gap, below, Fixed, logAt, moved, logarithm}
 use Rattle.kernels.specs.Kernels.{fromPower, cut, powered, powAt, expDef, lnDef}
 use Rattle.kernels.proofs.Cases.{powered-finite, in-domain}
-use Rattle.promises.specs.Kernels.{one, ExpZero, LnOne, PowOne, PowZero, PowAtMostOne}
-use Rattle.promises.proofs.Ends.{power-zero, under-power}
-use Rattle.promises.proofs.logarithm.Table.{entry-0}
+use Rattle.distances.specs.Kernels.{one, ExpZero, LnOne, PowOne, PowZero, PowAtMostOne}
+use Rattle.distances.proofs.Ends.{power-zero, under-power}
+use Rattle.distances.proofs.logarithm.Table.{entry-0}
 
 pub exp-zero : (f : Format) → ExpZero f
 unfolding expDef

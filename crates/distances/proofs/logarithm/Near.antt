@@ -16,10 +16,10 @@ use Rattle.exact.proofs.Odds.{oddFact-pos}
 use Rattle.rounding.proofs.Place.{normalised-lt, normalised-ge}
 use Rattle.kernels.specs.Core as Core
 use Rattle.kernels.specs.Core.{gap, below, index, moved, Fixed, logarithm}
-use Rattle.promises.proofs.logarithm.Horner.{below-is, g-le-lg}
-use Rattle.promises.proofs.logarithm.Table.{found, entry-0}
-use Rattle.promises.proofs.logarithm.Core.{error, Near}
-use Rattle.promises.proofs.logarithm.Moved.{in-63, digits-in, core-near}
+use Rattle.distances.proofs.logarithm.Horner.{below-is, g-le-lg}
+use Rattle.distances.proofs.logarithm.Table.{found, entry-0}
+use Rattle.distances.proofs.logarithm.Core.{error, Near}
+use Rattle.distances.proofs.logarithm.Moved.{in-63, digits-in, core-near}
 
 -- ---- x below 1 is so far below that the series stays below ln 2
 -- m has at most prec f digits, so M ends in 63 - prec f zeros

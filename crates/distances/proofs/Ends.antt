@@ -15,9 +15,9 @@ use Rattle.exact.specs.Exact.{N, P, taylor, fact}
 use Rattle.table.specs.Entry.{entry}
 use Rattle.kernels.specs.Core.{ups, horner, mantissa, BIAS}
 use Rattle.kernels.specs.Kernels.{finish, fromPower, cut, expDef}
-use Rattle.promises.specs.Kernels.{one, ended, edge, ExpEnds}
+use Rattle.distances.specs.Kernels.{one, ended, edge, ExpEnds}
 use Rattle.kernels.proofs.Cases.{at-low, at-high, at-mid, past, before}
-use Rattle.promises.proofs.power.Near.{mantissa-in}
+use Rattle.distances.proofs.power.Near.{mantissa-in}
 
 lt-or-ge : (a b : ℕ) → (a < b) ⊎ (b ≤ a)
 lt-or-ge a b = go (ltb a b) (ltb→lt a b) (nltb→le a b)

@@ -5,8 +5,8 @@ use lib.IntN.{ℤ}
 use lib.Ieee.{Format, binary32, binary64, prec}
 use Rattle.exact.specs.Exact.{N, E, L}
 use Rattle.kernels.specs.Core.{biased, mantissa, logarithm}
-use Rattle.promises.proofs.Finish.{CoreNear}
-use Rattle.promises.proofs.logarithm.Near.{LogNear}
+use Rattle.distances.proofs.Finish.{CoreNear}
+use Rattle.distances.proofs.logarithm.Near.{LogNear}
 
 -- how far the fixed-point argument may be from A, in units of 2 ^ -72: an exact exp's is cut, and pow's comes from the logarithm
 abbrev pub slack : Format → ℕ

@@ -9,10 +9,10 @@ use Rattle.exact.specs.Exact.{N}
 use Rattle.exact.proofs.Below.{less}
 use Rattle.table.specs.Entry.{entry}
 use Rattle.kernels.specs.Core.{gap, below, index}
-use Rattle.promises.proofs.logarithm.Sum.{PP, FF, Sn, Sd}
-use Rattle.promises.proofs.logarithm.Horner.{lg, below-is, cut}
-use Rattle.promises.proofs.logarithm.Argument.{Place, core-up, core-down}
-use Rattle.promises.proofs.logarithm.Table.{Row, row, found}
+use Rattle.distances.proofs.logarithm.Sum.{PP, FF, Sn, Sd}
+use Rattle.distances.proofs.logarithm.Horner.{lg, below-is, cut}
+use Rattle.distances.proofs.logarithm.Argument.{Place, core-up, core-down}
+use Rattle.distances.proofs.logarithm.Table.{Row, row, found}
 
 -- how far the core may lie from S, in units of 2 ^ -72
 abbrev pub error : Format → ℕ

@@ -13,7 +13,7 @@ use Rattle.exact.proofs.Fix.{both, both-left, both-right}
 use Rattle.exact.proofs.Terms.{pcoef, f23}
 use Rattle.table.specs.Entry.{entry}
 use Rattle.kernels.specs.Core.{firstFrom, index}
-use Rattle.promises.proofs.logarithm.Sum.{PP, FF}
+use Rattle.distances.proofs.logarithm.Sum.{PP, FF}
 
 -- ---- claims l ≤ h, all computed at once
 abbrev allb : List (ℕ × ℕ) → Bool

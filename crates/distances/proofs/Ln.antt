@@ -18,11 +18,11 @@ use Rattle.kernels.specs.Core.{below, logarithm}
 use Rattle.kernels.specs.Kernels.{lnDef}
 use Rattle.rounding.proofs.Place.{round-none}
 use Rattle.rounding.proofs.Relative.{kept-up, kept-down, kept-value}
-use Rattle.promises.specs.Kernels.{Close, LnClose, logBits}
-use Rattle.promises.proofs.Cores.{LogarithmNear}
-use Rattle.promises.proofs.logarithm.Core.{error}
-use Rattle.promises.proofs.logarithm.Near.{LogNear}
-use Rattle.promises.proofs.logarithm.Size.{mag-lt as size-of-log}
+use Rattle.distances.specs.Kernels.{Close, LnClose, logBits}
+use Rattle.distances.proofs.Cores.{LogarithmNear}
+use Rattle.distances.proofs.logarithm.Core.{error}
+use Rattle.distances.proofs.logarithm.Near.{LogNear}
+use Rattle.distances.proofs.logarithm.Size.{mag-lt as size-of-log}
 
 ruleset ac = (mul-assoc, mul-comm, mul-left-comm)
 

@@ -11,9 +11,9 @@ use Rattle.exact.specs.Exact.{N, E}
 use Rattle.kernels.specs.Core.{biased, mantissa}
 use Rattle.kernels.proofs.Cases.{before}
 use Rattle.kernels.specs.Kernels.{fromPower, cut, expDef}
-use Rattle.promises.specs.Kernels.{Near, ExpNear, powerBits, reach}
-use Rattle.promises.proofs.Finish.{finish-near, exponent-in}
-use Rattle.promises.proofs.Cores.{PowerNear, MantissaIn, slack}
+use Rattle.distances.specs.Kernels.{Near, ExpNear, powerBits, reach}
+use Rattle.distances.proofs.Finish.{finish-near, exponent-in}
+use Rattle.distances.proofs.Cores.{PowerNear, MantissaIn, slack}
 
 within : (f : Format) (mag : ℕ) → mag ≤ reach f * 2 ^ 72 + 2 ^ 26 → mag < 2 ^ 82
 within binary32 mag h = omega arith

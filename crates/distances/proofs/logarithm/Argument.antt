@@ -9,8 +9,8 @@ use Rattle.exact.proofs.Terms.{f23}
 use Rattle.exact.proofs.Below.{less}
 use Rattle.exact.proofs.Frac.{P-grow, either}
 use Rattle.exact.proofs.Chain.{nearer}
-use Rattle.promises.proofs.logarithm.Sum.{PP, FF, f-pos, Sn, Sd, Sd-pos, Ln, Ld, Ld-pos, Xn, Xd, close-up, close-down}
-use Rattle.promises.proofs.logarithm.Horner.{lg, lg-le, le-lg}
+use Rattle.distances.proofs.logarithm.Sum.{PP, FF, f-pos, Sn, Sd, Sd-pos, Ln, Ld, Ld-pos, Xn, Xd, close-up, close-down}
+use Rattle.distances.proofs.logarithm.Horner.{lg, lg-le, le-lg}
 
 -- P(a / b) ≤ P(c / d) (w + k) / w gives a / b ≤ c / d + m k / w, where P(c / d) ≤ m
 argument : (a b c d w k m : ℕ) → zero < b → zero < d → PP a b * FF d * w ≤ PP c d * FF b * (w + k) → PP c d ≤ m * FF d → a * d * w ≤ (c * w + m * k * d) * b

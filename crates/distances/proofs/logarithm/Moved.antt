@@ -15,8 +15,8 @@ use Rattle.exact.proofs.Frac.{h-homog}
 use Rattle.exact.proofs.Odds.{odds-series}
 use Rattle.rounding.proofs.Place.{normalised-lt, normalised-ge, size-pos, digits63}
 use Rattle.kernels.specs.Core.{gap, below, index, moved}
-use Rattle.promises.proofs.logarithm.Sum.{Sn, Sd, dS-pos}
-use Rattle.promises.proofs.logarithm.Core.{error, Near, near-at}
+use Rattle.distances.proofs.logarithm.Sum.{Sn, Sd, dS-pos}
+use Rattle.distances.proofs.logarithm.Core.{error, Near, near-at}
 
 -- ---- the same number n / d = S / D
 same-above : (o c S D n d w x l y : ℕ) → zero < c → o * S ≡ c * n → o * D ≡ c * d → S * w + 256 * l * D ≤ (x + y) * D → n * w + 256 * l * d ≤ (x + y) * d

@@ -14,7 +14,7 @@ use Rattle.exact.proofs.Terms.{pcoef, f23}
 use Rattle.exact.proofs.Taylor.{P-num, P-den}
 use Rattle.exact.proofs.Near.{P-den-pos}
 use Rattle.kernels.specs.Core.{BIAS}
-use Rattle.promises.proofs.power.Steps.{unit, span, value, denom}
+use Rattle.distances.proofs.power.Steps.{unit, span, value, denom}
 
 -- the argument A is K ln 2 + r, and num / den is 2 ^ (K - 2048) P(r)
 pub record Placed (b A : ℕ) (q : Frac) : Type 0 where

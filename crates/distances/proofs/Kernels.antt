@@ -1,14 +1,14 @@
 -- All that is promised of exp, ln and pow. Assumes nothing.
 use lib.Ieee.{Format}
-use Rattle.promises.specs.Kernels.{Kernels}
-use Rattle.promises.proofs.Exp.{exp-near}
-use Rattle.promises.proofs.Ends.{exp-ends}
-use Rattle.promises.proofs.Ln.{ln-close}
-use Rattle.promises.proofs.Pow.{pow-near, pow-ends}
-use Rattle.promises.proofs.Values.{exp-zero, ln-one, pow-one, pow-zero, pow-at-most-one}
-use Rattle.promises.proofs.Refusals.{exp-refuses, ln-refuses, pow-refuses}
-use Rattle.promises.proofs.power.Near.{power-near, mantissa-in}
-use Rattle.promises.proofs.logarithm.Near.{logarithm-near}
+use Rattle.distances.specs.Kernels.{Kernels}
+use Rattle.distances.proofs.Exp.{exp-near}
+use Rattle.distances.proofs.Ends.{exp-ends}
+use Rattle.distances.proofs.Ln.{ln-close}
+use Rattle.distances.proofs.Pow.{pow-near, pow-ends}
+use Rattle.distances.proofs.Values.{exp-zero, ln-one, pow-one, pow-zero, pow-at-most-one}
+use Rattle.distances.proofs.Refusals.{exp-refuses, ln-refuses, pow-refuses}
+use Rattle.distances.proofs.power.Near.{power-near, mantissa-in}
+use Rattle.distances.proofs.logarithm.Near.{logarithm-near}
 
 pub kernels : (f : Format) → Kernels f
 kernels f = record {

@@ -11,13 +11,13 @@ use Rattle.exact.specs.Exact.{E, L}
 use Rattle.kernels.specs.Core.{logarithm}
 use Rattle.kernels.proofs.Cases.{at-most-16, in-domain}
 use Rattle.kernels.specs.Kernels.{fromPower, cut, powDef}
-use Rattle.promises.specs.Kernels.{Near, PowNear, PowEnds, argument, powerBits, reach, edge, ended}
-use Rattle.promises.proofs.Cores.{PowerNear, MantissaIn, LogarithmNear, slack}
-use Rattle.promises.proofs.logarithm.Core.{error}
-use Rattle.promises.proofs.logarithm.Near.{LogNear, L-den-pos}
-use Rattle.promises.proofs.Exp.{power-near}
-use Rattle.promises.proofs.Ends.{power-ends}
-use Rattle.promises.proofs.Ln.{digits-below}
+use Rattle.distances.specs.Kernels.{Near, PowNear, PowEnds, argument, powerBits, reach, edge, ended}
+use Rattle.distances.proofs.Cores.{PowerNear, MantissaIn, LogarithmNear, slack}
+use Rattle.distances.proofs.logarithm.Core.{error}
+use Rattle.distances.proofs.logarithm.Near.{LogNear, L-den-pos}
+use Rattle.distances.proofs.Exp.{power-near}
+use Rattle.distances.proofs.Ends.{power-ends}
+use Rattle.distances.proofs.Ln.{digits-below}
 
 ruleset ac = (mul-assoc, mul-comm, mul-left-comm)
 

@@ -1,0 +1,8 @@
+-- All of it. Assumes nothing.
+use Rattle.distances.proofs.Kernels.{kernels}
+use Rattle.promises.specs.Promises.{Promises}
+use Rattle.promises.proofs.Twelve.{twelve}
+use Rattle.promises.proofs.Frozen.{demand3}
+
+pub promises : Promises
+promises = record { distances = kernels; twelve-values = twelve; frozen-weights = demand3 }
