@@ -20,12 +20,12 @@ def main():
             elif re.match(r"\d+ passed, \d+ failed", line):
                 last = line.strip()
     whole = int(sys.argv[2])
-    out = ["# Check times", "", f"Seconds on 2 processors (aarch64), from nothing, {datetime.date.today()}. `tools/check_times.py` writes this page from the", "gate's output. Two must-fail edits run at a time, so a crate's edits take about half of their sum.", ""]
-    out += ["| crate | proved in | must-fail edits | seconds of one | half of their sum |", "| --- | --- | --- | --- | --- |"]
+    out = ["# Check times", "", f"Seconds on 2 processors (aarch64), from nothing, {datetime.date.today()}. `tools/check_times.py` writes this page from the", "gate's output. Three checks run at a time (.ci/run), so that each takes longer than it would alone, and a crate's edits about a third", "of their sum.", ""]
+    out += ["| crate | proved in | must-fail edits | seconds of one | a third of their sum |", "| --- | --- | --- | --- | --- |"]
     for crate, seconds in proved.items():
         e = edits.get(crate, [])
         each = f"{min(e)} to {max(e)}" if e else ""
-        out.append(f"| `{crate}` | {seconds} | {len(e) or ''} | {each} | {sum(e) // 2 if e else ''} |")
+        out.append(f"| `{crate}` | {seconds} | {len(e) or ''} | {each} | {sum(e) // 3 if e else ''} |")
     out += ["", f"The whole gate: {whole} seconds ({whole / 60:.1f} minutes), '{last}'."]
     out += ["", *sys.argv[3:]] if sys.argv[3:] else []
     path = os.path.join(os.path.dirname(os.path.abspath(__file__)), "..", "docs", "CHECK-TIMES.md")
