@@ -7,6 +7,7 @@ use lib.Dec.{eqb}
 use lib.Ieee.{Float, eq, ofBits}
 use Rattle.domain.specs.Doubles.{zero64}
 use Rattle.weights.specs.Weights.{_!_}
+use Rattle.weights.proofs.All.{and-false}
 use Rattle.parameters.specs.Params.{paramsDef}
 use Rattle.parameters.specs.declared.RuntimeParams.{RuntimeParams}
 use Rattle.forward.specs.Reads.{among, stepReads, Agree}
@@ -19,7 +20,7 @@ use Rattle.reverse_walk.specs.Back.{backDef}
 use Rattle.passes.specs.Path.{rowScore, stepAt, stateAt, recordAt, scoreAt}
 use Rattle.passes.proofs.Kept.{back-same}
 use Rattle.agreement.proofs.Path.{Row, record-same}
-use Rattle.agreement.proofs.Within.{and-false, reverse-within, moves-within, scored-within}
+use Rattle.agreement.proofs.Within.{reverse-within, moves-within, scored-within}
 use Rattle.agreement.proofs.Reverse.{back-weights}
 
 module _ (w v days ratings days′ ratings′ : List Float) (columns column n : ℕ) (rows : (row : ℕ) → row < n → Row w v days ratings days′ ratings′ columns column row) (twenty : w ! 20 ≡ v ! 20) where

@@ -9,6 +9,7 @@ use borrow.Author.Tests.{eqb-true}
 use Rattle.domain.specs.Doubles.{zero64}
 use Rattle.domain.specs.Limits.{decimal, zero32, two, four}
 use Rattle.weights.specs.Weights.{_!_}
+use Rattle.weights.proofs.All.{and-false}
 use Rattle.scores.specs.declared.Score.{Score}
 use Rattle.scores.specs.Scores.{MIN_PROB, isInside, noScore, scoreDef}
 use Rattle.parameters.specs.declared.RuntimeParams.{RuntimeParams}
@@ -29,10 +30,6 @@ or-false false e = e
 by-or : (a b : Bool) {P : Type 0} → a || b ≡ true → (a ≡ true → P) → (b ≡ true → P) → P
 by-or true b e f g = f refl
 by-or false b e f g = g e
-
-pub and-false : (a : Bool) → a && false ≡ false
-and-false true = refl
-and-false false = refl
 
 module _ (w v : List Float) (twenty : w ! 20 ≡ v ! 20) where
   only-20 : Agree (20 ∷ []) w v

@@ -29,11 +29,11 @@ use Rattle.difficulty_gradients.specs.declared.DifficultyParts.{DifficultyParts
 use Rattle.failure_gradients.specs.declared.LapseParts.{LapseParts}
 use Rattle.success_gradients.specs.declared.SuccessParts.{SuccessParts}
 
-or-left : (a b : Bool) → a || b ≡ false → a ≡ false
+pub or-left : (a b : Bool) → a || b ≡ false → a ≡ false
 or-left false b e = refl
 or-left true b e = e
 
-or-right : (a b : Bool) → a || b ≡ false → b ≡ false
+pub or-right : (a b : Bool) → a || b ≡ false → b ≡ false
 or-right false b e = e
 or-right true b e = absurd (subst T e tt)
 

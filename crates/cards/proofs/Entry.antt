@@ -11,7 +11,7 @@ use Rattle.tables.specs.Batch.{Cards}
 use Rattle.checks.specs.Refusals.{longestOf, cardLossRefusal, cardGradRefusal}
 use Rattle.checks.proofs.Orders.{loss-accepted, grad-accepted}
 
-halves : (a b : Bool) → a && b ≡ true → (a ≡ true) × (b ≡ true)
+pub halves : (a b : Bool) → a && b ≡ true → (a ≡ true) × (b ≡ true)
 halves true b e = (refl, e)
 halves false b e = absurd (subst T (sym e) tt)
 

@@ -19,7 +19,7 @@ use Rattle.distances.specs.Kernels.{one, ended, edge, ExpEnds}
 use Rattle.kernels.proofs.Cases.{at-low, at-high, at-mid, past, before}
 use Rattle.distances.proofs.power.Near.{mantissa-in}
 
-lt-or-ge : (a b : ℕ) → (a < b) ⊎ (b ≤ a)
+pub lt-or-ge : (a b : ℕ) → (a < b) ⊎ (b ≤ a)
 lt-or-ge a b = go (ltb a b) (ltb→lt a b) (nltb→le a b)
   where
     go : (t : Bool) → (T t → a < b) → (T (not t) → b ≤ a) → (a < b) ⊎ (b ≤ a)

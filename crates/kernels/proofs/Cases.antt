@@ -66,14 +66,14 @@ powered-finite (inf false) h = h
 powered-finite (fin t n d) h = tt
 
 -- below b or equal to it, however the equality is asked
-below-or : (a b : ℕ) (c : Bool) → T (ltb a b || (eqb a b && c)) → a ≤ b
+pub below-or : (a b : ℕ) (c : Bool) → T (ltb a b || (eqb a b && c)) → a ≤ b
 below-or a b c h = go (or-yes (ltb a b) (eqb a b && c) h)
   where
     go : T (ltb a b) ⊎ T (eqb a b && c) → a ≤ b
     go (inl l) = le-of-lt (ltb→lt a b l)
     go (inr e) = le-of-eq (eqb→eq a b (and-l (eqb a b) c e))
 
-or-below : (a b : ℕ) (c : Bool) → T (ltb a b || (eqb b a && c)) → a ≤ b
+pub or-below : (a b : ℕ) (c : Bool) → T (ltb a b || (eqb b a && c)) → a ≤ b
 or-below a b c h = go (or-yes (ltb a b) (eqb b a && c) h)
   where
     go : T (ltb a b) ⊎ T (eqb b a && c) → a ≤ b

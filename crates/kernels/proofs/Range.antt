@@ -21,7 +21,7 @@ div-up d {a} p h = le-div-iff-mul-le p .1 (le-trans (div-mul-le-self a d) h)
 high-up : {x y p q : ℕ} → x ≤ y → p ≤ q → high x p ≤ high y q
 high-up a b = div-up (2 ^ 64) (pow-pos 64) (mul-le-mul a b)
 
-horner-up : (cs : List ℕ) {x y : ℕ} → x ≤ y → horner cs x ≤ horner cs y
+pub horner-up : (cs : List ℕ) {x y : ℕ} → x ≤ y → horner cs x ≤ horner cs y
 unfolding horner
 horner-up [] h = zero-le
 horner-up (c ∷ cs) h = add-le-add (le-refl c) (high-up h (horner-up cs h))

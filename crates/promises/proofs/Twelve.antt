@@ -15,11 +15,10 @@ use Rattle.forward.specs.Step.{clampState, paddingDef, stepDef}
 use Rattle.scores.specs.Scores.{MIN_PROB, MAX_PROB, noScore, scoreDef}
 use Rattle.reads.specs.Reads.{check, first, prefixRow, cardRow, targetDef}
 use Rattle.ends.specs.Ends.{targetLoss, targetGrad, targetSlots}
-use Rattle.values.proofs.Known.{Known}
 use Rattle.values.proofs.Defaults.{single, boxed, first-state}
 use Rattle.values.proofs.Steps.{Ready, same-stability, same-branch, lapse-stability, lapse-branch, early-stability, same-difficulty}
 use Rattle.promises.specs.Twelve.{Weights, InRange, Value1, Value2, Value3, Value4, Value5, Value6, Value7, Value8, Value9, Value10, Value11, Value12, NextDay, InPrefix, InCard, InTarget, last, next, Twelve}
-use Rattle.distances.proofs.Values.{exp-zero, pow-one, pow-zero, pow-at-most-one}
+use Rattle.distances.proofs.Values.{exp-zero}
 
 -- ---- the kernels
 value-1 : Value1
@@ -39,16 +38,13 @@ value-3 binary64 = (refl, refl)
 value-4 : Value4
 value-4 f = exp-zero f true
 
-known : Known
-known = record { exp-zero = exp-zero binary32; pow-one = pow-one binary32; pow-zero = pow-zero binary32; pow-at-most-one = pow-at-most-one binary32 }
-
 -- ---- the steps
 value-5 : Value5
 unfolding stepDef paddingDef clampState clampDef S_MIN S_MAX decimal lt ofBits
 value-5 w day rating e = rw e
 
 value-6 : Value6
-value-6 = (record { singles = single; boxed = boxed }, λ day. first-state known day)
+value-6 = (record { singles = single; boxed = boxed }, λ day. first-state day)
 
 ready : (w : List Float) (q : State) → Weights w → InRange q → Ready w q
 ready w q h g = record {
@@ -61,17 +57,17 @@ ready w q h g = record {
 }
 
 value-7 : Value7
-value-7 w h q g a b day e = (same-stability known w q (ready w q h g) day a b e, same-branch known w q (ready w q h g) day a b e)
+value-7 w h q g a b day e = (same-stability w q (ready w q h g) day a b e, same-branch w q (ready w q h g) day a b e)
 
 value-8 : Value8
 unfolding S_MIN ofBits
-value-8 w h q g a = (q .s /ᶠ exp32 (w ! 17 *ᶠ w ! 18), lapse-stability known w q (ready w q h g) a, lapse-branch known w q (ready w q h g) a)
+value-8 w h q g a = (q .s /ᶠ exp32 (w ! 17 *ᶠ w ! 18), lapse-stability w q (ready w q h g) a, lapse-branch w q (ready w q h g) a)
 
 value-9 : Value9
-value-9 w h q g = early-stability known w q (ready w q h g)
+value-9 w h q g = early-stability w q (ready w q h g)
 
 value-10 : Value10
-value-10 w h q g a day = same-difficulty known w q (ready w q h g) day a
+value-10 w h q g a day = same-difficulty w q (ready w q h g) day a
 
 -- ---- the scores
 value-11 : Value11

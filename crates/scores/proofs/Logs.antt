@@ -22,6 +22,7 @@ use Rattle.table.proofs.Entries.{entry-zero}
 use Rattle.kernels.specs.Core.{downs, horner, index, gap, below, logAt, moved, logarithm}
 use Rattle.kernels.specs.Kernels.{lnDef}
 use Rattle.kernels.proofs.First.{index-found}
+use Rattle.kernels.proofs.Range.{horner-up}
 use Rattle.rounding.proofs.Pattern.{pow-lt-back, pow-le-back}
 use Rattle.rounding.proofs.Place.{round-none, normalised-lt}
 use Rattle.scores.proofs.Settled.{digits-below, not-low, not-high}
@@ -60,11 +61,6 @@ round-plain false g z h = elim (eq-zero-or-pos g) [
 ]
 
 -- ---- the series below an entry
-horner-up : (cs : List ℕ) {x y : ℕ} → x ≤ y → horner cs x ≤ horner cs y
-unfolding horner
-horner-up [] h = zero-le
-horner-up (c ∷ cs) {x} {y} h = add-le-add (le-refl c) (le-div-iff-mul-le (pow-pos 64) .1 (le-trans (div-mul-le-self (x * horner cs x) (2 ^ 64)) (mul-le-mul h (horner-up cs h))))
-
 most : horner (downs binary32) (2 ^ 64) ≤ 2 ^ 66
 unfolding horner downs
 most = lit≤ tt

@@ -9,7 +9,8 @@ use lib.Ieee.{Float, nan, inf, fin, up, down, le, below, level, lt}
 use lib.Ieee.Fits.{and-l, down-pos, and-r}
 use lib.Ieee.Positive.{positive, num, den, den-pos, le→cross, between}
 use Rattle.domain.specs.Floats.{clampDef, within}
-use Rattle.values.proofs.Sizes.{Size, below-or, or-below}
+use Rattle.kernels.proofs.Cases.{below-or, or-below}
+use Rattle.values.proofs.Sizes.{Size}
 use Rattle.values.proofs.Operations.{Least}
 
 -- ---- its size

@@ -25,7 +25,7 @@ use Rattle.values.proofs.Signs.{plus-of, plus-div, both-negative, less-
 use Rattle.values.proofs.Powers.{plus-exp, plus-pow, exp-size, exp-least}
 use Rattle.values.proofs.Logs.{in-reach}
 use Rattle.values.proofs.Zeros.{one-is, zero-times, zero-over, zero-plus-one}
-use Rattle.values.proofs.Known.{Known}
+use Rattle.distances.proofs.Values.{pow-one, pow-at-most-one}
 
 -- ---- the factor
 -- ln 0.9, about -0.105
@@ -109,21 +109,21 @@ module _ (y : Float) (p : T (positive y)) (u : Size 0 y) (l : Least 4 y) where
         plus-mul r (curveFactor (neg y)) (size-finite 14 r h) (size-finite 25 (curveFactor (neg y)) factor-size) (plus-div unit s tt (plus-of s q)) factor-plus
 
     -- after a day
-    pub after-day : Known → T (fits binary32 y) → Size 0 (curveForward (neg y) (curveFactor (neg y)) one s .retrievability)
+    pub after-day : T (fits binary32 y) → Size 0 (curveForward (neg y) (curveFactor (neg y)) one s .retrievability)
     unfolding curveForward
-    after-day known k =
+    after-day k =
         subst (λ (b : Float). Size 0 (pow32 b (neg y))) (sym base-is)
         (most 0 (pow32 (product +ᶠ unit) (neg y)) (plus-pow (product +ᶠ unit) (neg y))
-        (known .pow-at-most-one (product +ᶠ unit) (neg y) (add-fits binary32 product unit) (neg-fits binary32 y k) (size-finite 40 (product +ᶠ unit) base-size) decay-in (one-more product (size-finite 39 product product-size) product-plus) (decay-low y p)))
+        (pow-at-most-one binary32 (product +ᶠ unit) (neg y) (add-fits binary32 product unit) (neg-fits binary32 y k) (size-finite 40 (product +ᶠ unit) base-size) decay-in (one-more product (size-finite 39 product product-size) product-plus) (decay-low y p)))
 
     -- before day 0
     early-is : baseDef (curveFactor (neg y)) (neg one) s ≡ fin false 0 (pos 0) /ᶠ s *ᶠ curveFactor (neg y) +ᶠ unit
     unfolding baseDef maxDef isNan lt neg ofBits
     early-is = refl
 
-    pub early : Known → curveForward (neg y) (curveFactor (neg y)) (neg one) s .retrievability ≡ unit
+    pub early : curveForward (neg y) (curveFactor (neg y)) (neg one) s .retrievability ≡ unit
     unfolding curveForward
-    early known =
+    early =
         let zero-quotient = zero-over (fin false 0 (pos 0)) s (false, refl) q in
         let zero-product = zero-times (fin false 0 (pos 0) /ᶠ s) (curveFactor (neg y)) zero-quotient (size-finite 25 (curveFactor (neg y)) factor-size) in
-        ap (λ (b : Float). pow32 b (neg y)) (early-is ∙ zero-plus-one (fin false 0 (pos 0) /ᶠ s *ᶠ curveFactor (neg y)) zero-product) ∙ known .pow-one (neg y) decay-in
+        ap (λ (b : Float). pow32 b (neg y)) (early-is ∙ zero-plus-one (fin false 0 (pos 0) /ᶠ s *ᶠ curveFactor (neg y)) zero-product) ∙ pow-one binary32 (neg y) decay-in

@@ -16,7 +16,7 @@ use Rattle.weights.specs.Weights.{_!_, LOW, HIGH, all, weightsRefusal, FSRS6_DE
 use Rattle.parameters.specs.Params.{initDifficulty, paramsDef}
 use Rattle.forward.specs.Step.{clampState, ratingNumber, isFirst, firstDef, stepDef}
 use Rattle.values.proofs.Sizes.{unit}
-use Rattle.values.proofs.Known.{Known}
+use Rattle.distances.proofs.Values.{exp-zero}
 
 abbrev w : List Float
 w = FSRS6_DEFAULT_PARAMETERS
@@ -56,14 +56,14 @@ there-and-back : fin false 13449665 (negsuc 20) -ᶠ unit +ᶠ one ≡ fin false
 unfolding sub add ofBits
 there-and-back = refl
 
-first-difficulty : Known → initDifficulty (w ! 4) (w ! 5) 1 ≡ w ! 4
+first-difficulty : initDifficulty (w ! 4) (w ! 5) 1 ≡ w ! 4
 unfolding initDifficulty
-first-difficulty known = ap (λ (x : Float). w ! 4 -ᶠ exp32 x +ᶠ one) no-offset ∙ ap (λ (x : Float). w ! 4 -ᶠ x +ᶠ one) (known .exp-zero false) ∙ rw fourth there-and-back
+first-difficulty = ap (λ (x : Float). w ! 4 -ᶠ exp32 x +ᶠ one) no-offset ∙ ap (λ (x : Float). w ! 4 -ᶠ x +ᶠ one) (exp-zero binary32 false) ∙ rw fourth there-and-back
 
 within : clampState (record { s = w ! 0; d = w ! 4 }) ≡ record { s = w ! 0; d = w ! 4 }
 unfolding clampState clampDef FSRS6_DEFAULT_PARAMETERS S_MIN S_MAX decimal lt ofBits
 within = refl
 
-pub first-state : Known → (day : Float) → stepDef (paramsDef w) (record { s = zero32; d = zero32 }) day one 0 .state ≡ record { s = w ! 0; d = w ! 4 }
+pub first-state : (day : Float) → stepDef (paramsDef w) (record { s = zero32; d = zero32 }) day one 0 .state ≡ record { s = w ! 0; d = w ! 4 }
 unfolding stepDef isFirst firstDef ratingNumber paramsDef eq ofBits
-first-state known day = ap (λ (d : Float). clampState (record { s = w ! 0; d = d })) (first-difficulty known) ∙ within
+first-state day = ap (λ (d : Float). clampState (record { s = w ! 0; d = d })) (first-difficulty) ∙ within

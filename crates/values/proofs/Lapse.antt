@@ -21,7 +21,6 @@ use Rattle.values.proofs.Signs.{plus-of, plus-div, one-more}
 use Rattle.values.proofs.Powers.{plus-exp, plus-pow, exp-size}
 use Rattle.values.proofs.Zeros.{Zero, one-is, one-less-one, times-zero, zero-times}
 use Rattle.values.proofs.States.{Held}
-use Rattle.values.proofs.Known.{Known}
 use Rattle.values.proofs.Ones.{pow-at, pow-of}
 
 -- ---- zeros and numbers from 1 on
@@ -50,7 +49,7 @@ above-one x a h = go x a (above-of-le unit x tt h)
     go (fin false m e) a h = h
 
 -- ---- the lapse
-module _ (known : Known) (w11 w12 w13 w14 divisor : Float) (last : State) (r : Float) (a : Size 4 w11) (a+ : T (positive w11)) (b : Size 0 w12) (c : Zero w13) (e : Size 3 w14) (v : T (plus divisor)) (q : Held last) (hr : Size 0 r) where
+module _ (w11 w12 w13 w14 divisor : Float) (last : State) (r : Float) (a : Size 4 w11) (a+ : T (positive w11)) (b : Size 0 w12) (c : Zero w13) (e : Size 3 w14) (v : T (plus divisor)) (q : Held last) (hr : Size 0 r) where
   abbrev share : Float
   share = pow32 (last .d) (neg w12)
 
@@ -69,7 +68,7 @@ module _ (known : Known) (w11 w12 w13 w14 divisor : Float) (last : State) (r : F
       above-one x (size-finite 17 x (add-size 16 (last .s) unit (lit< tt) (q .size-s) (lit≤ tt))) (one-more (last .s) (positive-finite (last .s) (q .above-s)) (plus-of (last .s) (q .above-s)))
 
   gained : pow32 (last .s +ᶠ one) w13 -ᶠ one ≡ fin false 0 (pos 0)
-  gained = rw one-is (ap (λ (x : Float). x -ᶠ unit) (pow-at known (last .s +ᶠ unit) w13 more c) ∙ one-less-one)
+  gained = rw one-is (ap (λ (x : Float). x -ᶠ unit) (pow-at (last .s +ᶠ unit) w13 more c) ∙ one-less-one)
 
   abbrev urge : Float
   urge = exp32 ((one -ᶠ r) *ᶠ w14)

@@ -8,7 +8,6 @@ pub mod Logs
 pub mod Zeros
 pub mod Box
 pub mod States
-pub mod Known
 pub mod Curve
 pub mod Ones
 pub mod Moves

@@ -17,6 +17,7 @@ use Rattle.table.specs.Entry.{entry}
 use Rattle.kernels.specs.Core.{downs, horner, index, gap, below, logAt, moved, logarithm}
 use Rattle.kernels.specs.Kernels.{powered}
 use Rattle.kernels.proofs.First.{index-found}
+use Rattle.kernels.proofs.Range.{horner-up}
 use Rattle.rounding.proofs.Pattern.{pow-lt-back, pow-le-back}
 use Rattle.rounding.proofs.Place.{normalised-lt}
 use Rattle.scores.proofs.Settled.{digits-below}
@@ -24,11 +25,6 @@ use Rattle.values.proofs.Sizes.{Size}
 use Rattle.values.proofs.Operations.{Least}
 
 -- ---- the series below an entry
-horner-up : (cs : List ℕ) {x y : ℕ} → x ≤ y → horner cs x ≤ horner cs y
-unfolding horner
-horner-up [] h = zero-le
-horner-up (c ∷ cs) {x} {y} h = add-le-add (le-refl c) (le-div-iff-mul-le (pow-pos 64) .1 (le-trans (div-mul-le-self (x * horner cs x) (2 ^ 64)) (mul-le-mul h (horner-up cs h))))
-
 most : horner (downs binary32) (2 ^ 64) ≤ 2 ^ 66
 unfolding horner downs
 most = lit≤ tt

@@ -16,17 +16,16 @@ use Rattle.values.proofs.Sizes.{Size, size-finite, neg-size, unit}
 use Rattle.values.proofs.Operations.{mul-size, add-size, sub-size}
 use Rattle.values.proofs.Zeros.{Zero, one-is, one-less-one, unit-fits, zero-plus-one, times-zero, zero-times, times-one}
 use Rattle.values.proofs.States.{Held}
-use Rattle.values.proofs.Known.{Known}
 use Rattle.values.proofs.Ones.{exp-at, pow-at, neg-zero, three-less, pow-of}
 
 -- ---- on the same day
-module _ (known : Known) (w17 w18 w19 s : Float) (a : Zero w17) (b : Size 2 w18) (c : Zero w19) (p : T (positive s)) (k : T (fits binary32 s)) where
+module _ (w17 w18 w19 s : Float) (a : Zero w17) (b : Size 2 w18) (c : Zero w19) (p : T (positive s)) (k : T (fits binary32 s)) where
   raw-is : shortRaw w17 w18 w19 s three ≡ unit
   unfolding shortRaw
   raw-is =
       let x = three -ᶠ three +ᶠ w18 in
       let h : Size 3 x = subst (λ (y : Float). Size 3 (y +ᶠ w18)) (sym three-less) (add-size 2 (fin false 0 (pos 0)) w18 (lit< tt) (lit≤ tt) b) in
-      ap₂ (λ (y z : Float). y *ᶠ z) (exp-at known (w17 *ᶠ x) (zero-times w17 x a (size-finite 3 x h))) (pow-at known s (neg w19) p (neg-zero w19 c)) ∙ times-one unit unit-fits
+      ap₂ (λ (y z : Float). y *ᶠ z) (exp-at (w17 *ᶠ x) (zero-times w17 x a (size-finite 3 x h))) (pow-at s (neg w19) p (neg-zero w19 c)) ∙ times-one unit unit-fits
 
   value-is : shortValue three unit ≡ unit
   unfolding shortValue maxDef isNan le ofBits
@@ -59,7 +58,7 @@ eleven-size : Size 4 eleven
 unfolding ofBits
 eleven-size = lit≤ tt
 
-module _ (known : Known) (exp-w8 w9 w10 w15 w16 : Float) (last : State) (a : Size 12 exp-w8) (b : Size 0 w9) (c : Size 3 w10) (q : Held last) where
+module _ (exp-w8 w9 w10 w15 w16 : Float) (last : State) (a : Size 12 exp-w8) (b : Size 0 w9) (c : Size 3 w10) (q : Held last) where
   abbrev grown : Float
   grown = exp-w8 *ᶠ (eleven -ᶠ last .d) *ᶠ pow32 (last .s) (neg w9)
 
@@ -71,7 +70,7 @@ module _ (known : Known) (exp-w8 w9 w10 w15 w16 : Float) (last : State) (a : Siz
   unurged : exp32 ((one -ᶠ unit) *ᶠ w10) -ᶠ one ≡ fin false 0 (pos 0)
   unurged =
       rw one-is
-      (ap (λ (x : Float). x -ᶠ unit) (exp-at known ((unit -ᶠ unit) *ᶠ w10) (zero-times (unit -ᶠ unit) w10 (false, one-less-one) (size-finite 3 w10 c))) ∙ one-less-one)
+      (ap (λ (x : Float). x -ᶠ unit) (exp-at ((unit -ᶠ unit) *ᶠ w10) (zero-times (unit -ᶠ unit) w10 (false, one-less-one) (size-finite 3 w10 c))) ∙ one-less-one)
 
   increase : (inc : Float) → Move
   increase inc = record { s = last .s *ᶠ (inc +ᶠ one); branch = Success }

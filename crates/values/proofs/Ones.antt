@@ -14,14 +14,14 @@ use Rattle.values.proofs.Operations.{Least}
 use Rattle.values.proofs.Powers.{pow-size}
 use Rattle.values.proofs.Logs.{log-size, in-reach}
 use Rattle.values.proofs.Zeros.{Zero, shape}
-use Rattle.values.proofs.Known.{Known}
+use Rattle.distances.proofs.Values.{exp-zero, pow-zero}
 
 -- ---- at a zero
-pub exp-at : Known → (x : Float) → Zero x → exp32 x ≡ unit
-exp-at known x z = ap exp32 (z .1) ∙ known .exp-zero (z .0)
+pub exp-at : (x : Float) → Zero x → exp32 x ≡ unit
+exp-at x z = ap exp32 (z .1) ∙ exp-zero binary32 (z .0)
 
-pub pow-at : Known → (x y : Float) → T (positive x) → Zero y → pow32 x y ≡ unit
-pow-at known x y p z = let f = shape x p in ap₂ pow32 (f .2) (z .1) ∙ known .pow-zero (f .0) (f .1) (z .0)
+pub pow-at : (x y : Float) → T (positive x) → Zero y → pow32 x y ≡ unit
+pow-at x y p z = let f = shape x p in ap₂ pow32 (f .2) (z .1) ∙ pow-zero binary32 (f .0) (f .1) (z .0)
 
 pub neg-zero : (x : Float) → Zero x → Zero (neg x)
 unfolding neg

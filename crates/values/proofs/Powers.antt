@@ -16,6 +16,7 @@ use Rattle.kernels.specs.Core.{BIAS, biased, mantissa, logarithm}
 use Rattle.kernels.specs.Kernels.{finish, fromPower, cut, powered, expDef, powDef}
 use Rattle.kernels.proofs.Cases.{at-low, at-high, at-mid, past, before, in-domain}
 use Rattle.kernels.proofs.Range.{mantissa-range}
+use Rattle.distances.proofs.Ends.{lt-or-ge}
 use Rattle.values.proofs.Sizes.{Size, plus, plus-cond, plus-round, unit, one-round, round-size}
 
 -- ---- never negative
@@ -51,13 +52,6 @@ plus-pow (fin false (suc m) e) (fin t n d) =
     plus-cond (powered (fin t n d)) (fromPower binary32 (unlike (l .negative) t) (cut n d (l .mag))) nan (plus-power binary32 (unlike (l .negative) t) (cut n d (l .mag))) tt
 
 -- ---- at most 2 ^ k
-lt-or-ge : (a b : ℕ) → (a < b) ⊎ (b ≤ a)
-lt-or-ge a b = go (ltb a b) (ltb→lt a b) (nltb→le a b)
-  where
-    go : (t : Bool) → (T t → a < b) → (T (not t) → b ≤ a) → (a < b) ⊎ (b ≤ a)
-    go true l g = inl (l tt)
-    go false l g = inr (g tt)
-
 wide : (K k : ℕ) → K < 2048 + k → k < 128 → K ≤ 2048 + 127
 wide K k h l = omega arith
 

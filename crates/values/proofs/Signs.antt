@@ -13,7 +13,8 @@ use lib.Ieee.Order.{round-mono}
 use lib.Ieee.Positive.{positive}
 use lib.Ieee.Scale.{finite}
 use Rattle.domain.specs.Floats.{_+ᶠ_, _-ᶠ_, _/ᶠ_}
-use Rattle.values.proofs.Sizes.{plus, plus-cond, plus-round, unit, one-round, below-or}
+use Rattle.kernels.proofs.Cases.{below-or}
+use Rattle.values.proofs.Sizes.{plus, plus-cond, plus-round, unit, one-round}
 
 pub plus-of : (x : Float) → T (positive x) → T (plus x)
 plus-of nan h = absurd h

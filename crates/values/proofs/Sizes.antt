@@ -13,6 +13,7 @@ use lib.Ieee.Order.{round-mono}
 use lib.Ieee.Scale.{finite}
 use mir.Facts.{or-yes}
 use Rattle.scores.proofs.Settled.{settles}
+use Rattle.kernels.proofs.Cases.{below-or, or-below}
 
 -- a number, and at most 2 ^ k in size
 abbrev pub Size : ℕ → Float → Type 0
@@ -74,13 +75,6 @@ unfolding neg
 neg-size k nan h = absurd h
 neg-size k (inf s) h = absurd h
 neg-size k (fin s m e) h = h
-
--- below b or equal to it, however the equality is asked
-pub below-or : (a b : ℕ) (c : Bool) → T (ltb a b || (eqb a b && c)) → a ≤ b
-below-or a b c h = elim (or-yes (ltb a b) (eqb a b && c) h) [ inl l ↦ le-of-lt (ltb→lt a b l) | inr e ↦ le-of-eq (eqb→eq a b (and-l (eqb a b) c e)) ]
-
-pub or-below : (a b : ℕ) (c : Bool) → T (ltb a b || (eqb b a && c)) → a ≤ b
-or-below a b c h = elim (or-yes (ltb a b) (eqb b a && c) h) [ inl l ↦ le-of-lt (ltb→lt a b l) | inr e ↦ le-of-eq (sym (eqb→eq b a (and-l (eqb b a) c e))) ]
 
 pub most : (k : ℕ) (y : Float) → T (plus y) → T (le y (fin false 1 (pos k))) → Size k y
 unfolding le

@@ -21,7 +21,6 @@ use Rattle.values.proofs.Powers.{plus-exp, exp-size}
 use Rattle.values.proofs.Zeros.{is-zero}
 use Rattle.values.proofs.Box.{weight-size, above-11, above-20, least-20}
 use Rattle.values.proofs.States.{Held, held, stays-s, stays-d, stays-state, rises}
-use Rattle.values.proofs.Known.{Known}
 use Rattle.values.proofs.Curve.{after-day, early}
 use Rattle.values.proofs.Moves.{same-day, success}
 use Rattle.values.proofs.Lapse.{lapse}
@@ -61,7 +60,7 @@ pub record Ready (w : List Float) (q : State) : Type 0 where
   pub hs : T (stabilityGood (q .s))
   pub hd : T (difficultyGood (q .d))
 
-module _ (known : Known) (w : List Float) (q : State) (ready : Ready w q) where
+module _ (w : List Float) (q : State) (ready : Ready w q) where
   open Ready ready using (singles, box, ks, kd, hs, hd)
 
   abbrev p : RuntimeParams
@@ -88,7 +87,7 @@ module _ (known : Known) (w : List Float) (q : State) (ready : Ready w q) where
   module _ (day : Float) (z17 : eq (w ! 17) zero32 ≡ true) (z19 : eq (w ! 19) zero32 ≡ true) (today : eq day zero32 ≡ true) where
     same-move : move q day three ≡ record { s = q .s; branch = SameDay one one true }
     unfolding moveDef paramsDef
-    same-move = rw today (same-day known (w ! 17) (w ! 18) (w ! 19) (q .s) (is-zero (w ! 17) (singles 17) z17) (weight-size w box 18 (lit< tt)) (is-zero (w ! 19) (singles 19) z19) (mine .above-s) ks)
+    same-move = rw today (same-day (w ! 17) (w ! 18) (w ! 19) (q .s) (is-zero (w ! 17) (singles 17) z17) (weight-size w box 18 (lit< tt)) (is-zero (w ! 19) (singles 19) z19) (mine .above-s) ks)
 
     pub same-stability : stepDef p q day three 1 .state .s ≡ q .s
     same-stability = stability-is day three three-not-none ∙ ap (λ (m : Move). clampDef (m .s) S_MIN S_MAX) same-move ∙ stays-s (q .s) hs
@@ -105,8 +104,8 @@ module _ (known : Known) (w : List Float) (q : State) (ready : Ready w q) where
     unfolding moveDef paramsDef
     lapse-move =
         rw (one-not-none, one-is-one)
-        (lapse known (w ! 11) (w ! 12) (w ! 13) (w ! 14) (exp32 (w ! 17 *ᶠ w ! 18)) q (recall one (q .s)) (weight-size w box 11 (lit< tt)) (above-11 w box) (weight-size w box 12 (lit< tt)) (is-zero (w ! 13) (singles 13) z13) (weight-size w box 14 (lit< tt)) (plus-exp (w ! 17 *ᶠ w ! 18)) mine
-        (after-day (w ! 20) (above-20 w box) (weight-size w box 20 (lit< tt)) (least-20 w box) (q .s) (mine .above-s) (mine .least-s) known (singles 20)))
+        (lapse (w ! 11) (w ! 12) (w ! 13) (w ! 14) (exp32 (w ! 17 *ᶠ w ! 18)) q (recall one (q .s)) (weight-size w box 11 (lit< tt)) (above-11 w box) (weight-size w box 12 (lit< tt)) (is-zero (w ! 13) (singles 13) z13) (weight-size w box 14 (lit< tt)) (plus-exp (w ! 17 *ᶠ w ! 18)) mine
+        (after-day (w ! 20) (above-20 w box) (weight-size w box 20 (lit< tt)) (least-20 w box) (q .s) (mine .above-s) (mine .least-s) (singles 20)))
 
     pub lapse-stability : stepDef p q one one 1 .state .s ≡ S_MIN
     lapse-stability = stability-is one one one-not-none ∙ ap (λ (m : Move). clampDef (m .s) S_MIN S_MAX) lapse-move ∙ rises
@@ -118,7 +117,7 @@ module _ (known : Known) (w : List Float) (q : State) (ready : Ready w q) where
   early-move : move q (neg one) three .s ≡ q .s
   unfolding moveDef paramsDef
   early-move =
-      rw (early-not-none, three-not-one, early (w ! 20) (above-20 w box) (weight-size w box 20 (lit< tt)) (least-20 w box) (q .s) (mine .above-s) (mine .least-s) known, success known (exp32 (w ! 8)) (w ! 9) (w ! 10) (w ! 15) (w ! 16) q (exp-size 3 12 (w ! 8) (lit< tt) (lit< tt) (lit< tt) (weight-size w box 8 (lit< tt))) (weight-size w box 9 (lit< tt)) (weight-size w box 10 (lit< tt)) mine)
+      rw (early-not-none, three-not-one, early (w ! 20) (above-20 w box) (weight-size w box 20 (lit< tt)) (least-20 w box) (q .s) (mine .above-s) (mine .least-s), success (exp32 (w ! 8)) (w ! 9) (w ! 10) (w ! 15) (w ! 16) q (exp-size 3 12 (w ! 8) (lit< tt) (lit< tt) (lit< tt) (weight-size w box 8 (lit< tt))) (weight-size w box 9 (lit< tt)) (weight-size w box 10 (lit< tt)) mine)
 
   pub early-stability : stepDef p q (neg one) three 1 .state .s ≡ q .s
   early-stability = stability-is (neg one) three three-not-none ∙ ap (λ (s : Float). clampDef s S_MIN S_MAX) early-move ∙ stays-s (q .s) hs

@@ -9,7 +9,7 @@ use native.Mathlib.Numerals.{add-one}
 use lib.Ieee.{Float}
 use Rattle.weights.specs.Weights.{_!_, all}
 
-and-false : (a : Bool) → a && false ≡ false
+pub and-false : (a : Bool) → a && false ≡ false
 and-false true = refl
 and-false false = refl
 

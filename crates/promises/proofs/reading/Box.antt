@@ -11,7 +11,7 @@ use lib.ListN.{length, length-set, set}
 use lib.Seq.{getD-set-same, getD-set-other}
 use Rattle.weights.specs.Weights.{_!_, inBox, all, boxed, weightsRefusal}
 use Rattle.weights.proofs.Accepted.{accepted-length, accepted-box}
-use Rattle.promises.proofs.reading.Some.{halves}
+use Rattle.cards.proofs.Entry.{halves}
 
 module _ (w : List Float) (k : ℕ) (a : Float) (good : inBox k a ≡ true) where
   at-k : (n : ℕ) → n < length w → inBox n (w ! n) ≡ true → (b : Bool) → b ≡ eqb n k → inBox n (set w k a ! n) ≡ true

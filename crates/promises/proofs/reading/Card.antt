@@ -25,11 +25,11 @@ use Rattle.cards.specs.Cards.{cardLoss, cardSlots, lossOf, cardsLossAndGrad, ca
 use Rattle.agreement.proofs.Card.{last-inside, card-record-same, inside, rating-read, day-read, CardCells, card-fault-same, card-loss-same, card-slots-same, card-keeps}
 use Rattle.agreement.proofs.Faults.{faults-same}
 use Rattle.agreement.proofs.Columns.{total-same, through-same, through-keeps, longest-same}
+use Rattle.cards.proofs.Entry.{halves}
 use Rattle.promises.specs.Reads.{Slice, days, ratings, targets, labels, weights, inside as in-table, cardCell, cardReads, callMoves}
 use Rattle.promises.specs.Calls.{Call, Kind, cardSlice, cards}
 use Rattle.promises.specs.Frozen.{SameInputs, SameWeights, Alike, mayMove, Frozen}
 use Rattle.promises.proofs.reading.Any.{answer-same, weights-read, turned, free}
-use Rattle.promises.proofs.reading.Some.{halves}
 use Rattle.promises.proofs.reading.Steps.{SameSteps, reads-20, agree-row, moves-same, no-step, no-end}
 
 -- an empty card has no last row

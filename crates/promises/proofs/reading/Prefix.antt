@@ -25,11 +25,11 @@ use Rattle.prefixes.specs.Prefixes.{prefixLoss, prefixSlots, lossOf, batchLossA
 use Rattle.agreement.proofs.Faults.{faults-same}
 use Rattle.agreement.proofs.Columns.{total-same, through-same, through-keeps, longest-same}
 use Rattle.agreement.proofs.Prefix.{PrefixCells, prefix-record-same, prefix-fault-same, prefix-loss-same, prefix-slots-same, prefix-keeps}
+use Rattle.cards.proofs.Entry.{halves}
 use Rattle.promises.specs.Reads.{Slice, days, ratings, targets, labels, weights, inside, prefixCell, prefixReads, callReads, callMoves}
 use Rattle.promises.specs.Calls.{Call, Kind, prefixSlice, prefixes}
 use Rattle.promises.specs.Frozen.{SameInputs, SameWeights, Alike, mayMove, Frozen}
 use Rattle.promises.proofs.reading.Any.{answer-same, weights-read, turned, free}
-use Rattle.promises.proofs.reading.Some.{halves}
 use Rattle.promises.proofs.reading.Steps.{SameSteps, reads-20, agree-row, moves-same, no-step, no-end}
 
 module _ (x y : Prefixes) (same : SameInputs prefixes x y) where

@@ -1,24 +1,13 @@
 -- A test of some number below n. Assumes nothing.
 use Prim.Native.Nat.{ℕ, zero, suc, _<_}
-use mathlib.Core.Bool.{Bool, true, false, _||_, _&&_}
+use mathlib.Core.Bool.{Bool, true, false, _||_}
 use mathlib.Core.Path.{_≡_, refl, sym, _∙_, subst}
 use native.Mathlib.Nat.{le-suc, lt-of-lt-of-le, lt-suc-self, not-suc-le-zero}
 use native.Mathlib.Omega.{arith}
 use borrow.Author.Tests.{ltb-true, ltb-false}
 use lib.Dec.{T, ltb}
+use Rattle.backward.proofs.Keeps.{or-left, or-right}
 use Rattle.promises.specs.Reads.{some}
-
-pub or-left : (a b : Bool) → a || b ≡ false → a ≡ false
-or-left false b e = refl
-or-left true b e = e
-
-pub or-right : (a b : Bool) → a || b ≡ false → b ≡ false
-or-right false b e = e
-or-right true b e = absurd (subst T e tt)
-
-pub halves : (a b : Bool) → a && b ≡ true → (a ≡ true) × (b ≡ true)
-halves true b e = (refl, e)
-halves false b e = absurd (subst T (sym e) tt)
 
 -- all or none below n, the last or one before it
 last-or : (P : ℕ → Type 0) (n i : ℕ) → i < suc n → P n → ((j : ℕ) → j < n → P j) → P i

@@ -18,10 +18,11 @@ use Rattle.forward.specs.Step.{noState, isFirst, ratingNumber}
 use Rattle.forward.specs.declared.step.StepRecord.{StepRecord}
 use Rattle.forward.proofs.Agreement.{by-cases}
 use Rattle.backward.specs.Moves.{slotsOf}
+use Rattle.backward.proofs.Keeps.{or-left, or-right}
 use Rattle.passes.specs.Path.{stateAt, recordAt}
 use Rattle.agreement.proofs.Walk.{still-unread}
 use Rattle.promises.specs.Reads.{some, rowReads, stepsRead, callReads, columnMoves, callMoves}
-use Rattle.promises.proofs.reading.Some.{or-left, or-right, none-of, none-some, some-of, some-same}
+use Rattle.promises.proofs.reading.Some.{none-of, none-some, some-of, some-same}
 
 -- in a loss call the first step is that of row 0
 pub reads-are :
