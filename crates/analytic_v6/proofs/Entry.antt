@@ -7,12 +7,12 @@ use lib.Dec.{eqb}
 use lib.Ieee.{Float}
 use lib.ListN.{length}
 use borrow.Author.Tests.{eq-eqb, ne-eqb, eqb-true}
-use Rattle.weights.specs.Weights.{copyDef, weightsRefusal}
-use Rattle.weights.proofs.Accepted.{accepted-length}
-use Rattle.weights.proofs.Copy.{copy-whole}
-use Rattle.parameters.specs.Params.{paramsDef}
+use Rattle.domain.specs.Weights.{copyDef, weightsRefusal}
+use Rattle.domain.proofs.weights.Accepted.{accepted-length}
+use Rattle.domain.proofs.weights.Copy.{copy-whole}
+use Rattle.forward.specs.Params.{paramsDef}
 use Rattle.forward.specs.Step.{noState}
-use Rattle.branches.specs.declared.stability.State.{State}
+use Rattle.forward.specs.declared.stability.State.{State}
 use Rattle.backward.specs.Step.{stepGrad, stepMoved}
 use Rattle.analytic_v6.specs.Step.{stepRefusal, blank, stepped, trainingStep, noReverse, trainingReverse, reverseRefusal, reverseSlots}
 

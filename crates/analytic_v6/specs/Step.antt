@@ -8,12 +8,12 @@ use lib.Ieee.Scale.{finite}
 use lib.ListN.{length}
 use Rattle.domain.specs.Doubles.{zero64}
 use Rattle.domain.specs.Limits.{zero32, dayGood}
-use Rattle.reads.specs.Reads.{ratingGood}
-use Rattle.weights.specs.Weights.{weightsRefusal}
-use Rattle.parameters.specs.Params.{paramsDef}
+use Rattle.checks.specs.Reads.{ratingGood}
+use Rattle.domain.specs.Weights.{weightsRefusal}
+use Rattle.forward.specs.Params.{paramsDef}
 use Rattle.forward.specs.Step.{noState, isFirst, stepDef}
-use Rattle.branches.specs.declared.stability.Branch.the-variants.{Padding}
-use Rattle.branches.specs.declared.stability.State.{State}
+use Rattle.forward.specs.declared.stability.Branch.the-variants.{Padding}
+use Rattle.forward.specs.declared.stability.State.{State}
 use Rattle.forward.specs.declared.step.StepRecord.{StepRecord}
 use Rattle.forward.specs.declared.step.Stepped.{Stepped}
 use Rattle.backward.specs.Step.{stepGrad, stepMoved}

@@ -5,18 +5,18 @@ ghost use lib.ListN.{length};
 ghost use Rattle.analytic_v6.specs.Step.{isUnread, finiteState, stepRefusal, blank, trainingStep, trainingReverse, reverseSlots};
 use backward::step::StateGrad;
 use backward::step::step_backward;
-use branches::stability::Branch;
-use branches::stability::State;
+use forward::stability::Branch;
+use forward::stability::State;
 use domain::floats::is_finite;
 use domain::limits::is_day;
 use forward::step::StepRecord;
 use forward::step::is_first;
 use forward::step::step_forward;
-use parameters::runtime_params;
-use reads::either;
-use reads::is_rating;
-use weights::copy_weights;
-use weights::weights_refusal;
+use forward::parameters::runtime_params;
+use checks::reads::either;
+use checks::reads::is_rating;
+use domain::weights::copy_weights;
+use domain::weights::weights_refusal;
 
 // The number of a refusal, 0 where there is none; the state after the step and its record, all +0.0 where there is one.
 pub struct TrainingStep {

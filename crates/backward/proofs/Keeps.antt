@@ -9,25 +9,25 @@ use lib.Seq.{getD-set-other}
 use borrow.Author.Tests.{eqb-false}
 use Rattle.domain.specs.Doubles.{zero64}
 use Rattle.domain.specs.Limits.{two, four}
-use Rattle.weights.specs.Weights.{_!_}
-use Rattle.parameters.specs.Params.{initDifficulty}
+use Rattle.domain.specs.Weights.{_!_}
+use Rattle.forward.specs.Params.{initDifficulty}
 use Rattle.forward.specs.Reads.{among, firstWeights, common, successWeights}
-use Rattle.curves.specs.declared.CurveCache.{CurveCache}
-use Rattle.parameters.specs.declared.RuntimeParams.{RuntimeParams}
-use Rattle.branches.specs.declared.stability.Branch.{Branch}
-use Rattle.branches.specs.declared.stability.Branch.the-variants.{Padding, First, SameDay, Lapse, Success}
+use Rattle.forward.specs.declared.curve.CurveCache.{CurveCache}
+use Rattle.forward.specs.declared.parameters.RuntimeParams.{RuntimeParams}
+use Rattle.forward.specs.declared.stability.Branch.{Branch}
+use Rattle.forward.specs.declared.stability.Branch.the-variants.{Padding, First, SameDay, Lapse, Success}
 use Rattle.forward.specs.declared.step.StepRecord.{StepRecord}
-use Rattle.curve_gradients.specs.Curve.{curveSlots}
-use Rattle.difficulty_gradients.specs.Difficulty.{meanGrad, partsOf, difficultySlots, difficultyMoved, initSlots, initMoved}
+use Rattle.backward.specs.Curve.{curveSlots}
+use Rattle.backward.specs.Difficulty.{meanGrad, partsOf, difficultySlots, difficultyMoved, initSlots, initMoved}
 use Rattle.backward.specs.Moves.{slotsOf, mayMove}
-use Rattle.slots.specs.Slots.{bump, bumpIf}
-use Rattle.gradients.specs.Stability.{shortSlots, shortMoved}
-use Rattle.failure_gradients.specs.Failure.{floorSlots, lapseSlots, failureMoved}
-use Rattle.success_gradients.specs.Success.{successSlots, successMoved}
+use Rattle.backward.specs.Slots.{bump, bumpIf}
+use Rattle.backward.specs.Stability.{shortSlots, shortMoved}
+use Rattle.backward.specs.Failure.{floorSlots, lapseSlots, failureMoved}
+use Rattle.backward.specs.Success.{successSlots, successMoved}
 use Rattle.backward.specs.Step.{carried, firstFlow, flowDef, preGrad, firstMoved, shortAll, lapseAll, successAll, flowMoved, stepMoved}
-use Rattle.difficulty_gradients.specs.declared.DifficultyParts.{DifficultyParts}
-use Rattle.failure_gradients.specs.declared.LapseParts.{LapseParts}
-use Rattle.success_gradients.specs.declared.SuccessParts.{SuccessParts}
+use Rattle.backward.specs.declared.difficulty.DifficultyParts.{DifficultyParts}
+use Rattle.backward.specs.declared.failure.LapseParts.{LapseParts}
+use Rattle.backward.specs.declared.success.SuccessParts.{SuccessParts}
 
 pub or-left : (a b : Bool) → a || b ≡ false → a ≡ false
 or-left false b e = refl

@@ -5,17 +5,17 @@ use mathlib.Core.List.{List, [], _∷_}
 use mathlib.Core.Path.{_≡_, refl}
 use lib.Ieee.{Float, eq}
 use Rattle.domain.specs.Limits.{one, two, four}
-use Rattle.weights.specs.Weights.{_!_}
-use Rattle.parameters.specs.Params.{paramsDef}
-use Rattle.branches.specs.declared.stability.Branch.{Branch}
-use Rattle.branches.specs.declared.stability.Branch.the-variants.{Padding, First, SameDay, Lapse, Success}
+use Rattle.domain.specs.Weights.{_!_}
+use Rattle.forward.specs.Params.{paramsDef}
+use Rattle.forward.specs.declared.stability.Branch.{Branch}
+use Rattle.forward.specs.declared.stability.Branch.the-variants.{Padding, First, SameDay, Lapse, Success}
 use Rattle.forward.specs.Reads.{among, common, successWeights, Agree}
 use Rattle.forward.specs.declared.step.StepRecord.{StepRecord}
 use Rattle.forward.proofs.Agreement.{before, after, one-of, long-of}
-use Rattle.difficulty_gradients.specs.Difficulty.{difficultyBack, difficultyMoved, initMoved}
-use Rattle.gradients.specs.Stability.{shortBack, shortMoved}
-use Rattle.failure_gradients.specs.Failure.{failureBack, failureMoved}
-use Rattle.success_gradients.specs.Success.{successOf, successBack, successMoved}
+use Rattle.backward.specs.Difficulty.{difficultyBack, difficultyMoved, initMoved}
+use Rattle.backward.specs.Stability.{shortBack, shortMoved}
+use Rattle.backward.specs.Failure.{failureBack, failureMoved}
+use Rattle.backward.specs.Success.{successOf, successBack, successMoved}
 use Rattle.backward.specs.Moves.{reverseReads}
 use Rattle.backward.specs.Step.{shortFlow, shortAll, lapseFlow, lapseAll, successFlow, successAll, firstMoved, flowDef, flowMoved, curveOf, stepGrad, stepMoved, preGrad}
 

@@ -1,3 +1,9 @@
+pub mod Curve
+pub mod Difficulty
+pub mod Failure
 pub mod Moves
 pub mod Own
+pub mod Slots
+pub mod Stability
 pub mod Step
+pub mod Success

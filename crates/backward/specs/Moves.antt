@@ -6,8 +6,8 @@ use lib.Dec.{eqb}
 use lib.Ieee.{Float, eq}
 use Rattle.domain.specs.Doubles.{zero64}
 use Rattle.forward.specs.Reads.{among, firstWeights, common, successWeights}
-use Rattle.branches.specs.declared.stability.Branch.{Branch}
-use Rattle.branches.specs.declared.stability.Branch.the-variants.{Padding, First, SameDay, Lapse, Success}
+use Rattle.forward.specs.declared.stability.Branch.{Branch}
+use Rattle.forward.specs.declared.stability.Branch.the-variants.{Padding, First, SameDay, Lapse, Success}
 use Rattle.forward.specs.declared.step.StepRecord.{StepRecord}
 
 -- 'padding: none'; 'first: the same'; '4-7, 20' and '17-19, if the raw multiplier counts', '11-14, or 17, 18 if floored', or those of the success

@@ -5,21 +5,21 @@ use mathlib.Core.List.{List}
 use lib.Ieee.{Float}
 use Rattle.domain.specs.Floats.{maxDef}
 use Rattle.domain.specs.Limits.{zero32, S_MIN, S_MAX, D_MIN, D_MAX}
-use Rattle.weights.specs.Weights.{_!_}
+use Rattle.domain.specs.Weights.{_!_}
 use Rattle.domain.specs.Doubles.{_+ᵈ_, _*ᵈ_, zero64}
-use Rattle.curves.specs.Curve.{baseDef}
-use Rattle.curves.specs.declared.CurveCache.{CurveCache}
-use Rattle.parameters.specs.declared.RuntimeParams.{RuntimeParams}
-use Rattle.branches.specs.declared.stability.Branch.{Branch}
-use Rattle.branches.specs.declared.stability.Branch.the-variants.{Padding, First, SameDay, Lapse, Success}
+use Rattle.forward.specs.Curve.{baseDef}
+use Rattle.forward.specs.declared.curve.CurveCache.{CurveCache}
+use Rattle.forward.specs.declared.parameters.RuntimeParams.{RuntimeParams}
+use Rattle.forward.specs.declared.stability.Branch.{Branch}
+use Rattle.forward.specs.declared.stability.Branch.the-variants.{Padding, First, SameDay, Lapse, Success}
 use Rattle.forward.specs.declared.step.StepRecord.{StepRecord}
-use Rattle.curve_gradients.specs.Curve.{curveBack, curveSlots}
-use Rattle.difficulty_gradients.specs.Difficulty.{difficultyBack, difficultyMoved, initMoved}
-use Rattle.slots.specs.Slots.{clampGrad}
-use Rattle.gradients.specs.Stability.{shortBack, shortMoved}
-use Rattle.failure_gradients.specs.Failure.{failureBack, failureMoved}
-use Rattle.success_gradients.specs.Success.{successBack, successMoved}
-use Rattle.gradients.specs.declared.stability.Grads.{Grads}
+use Rattle.backward.specs.Curve.{curveBack, curveSlots}
+use Rattle.backward.specs.Difficulty.{difficultyBack, difficultyMoved, initMoved}
+use Rattle.backward.specs.Slots.{clampGrad}
+use Rattle.backward.specs.Stability.{shortBack, shortMoved}
+use Rattle.backward.specs.Failure.{failureBack, failureMoved}
+use Rattle.backward.specs.Success.{successBack, successMoved}
+use Rattle.backward.specs.declared.stability.Grads.{Grads}
 use Rattle.backward.specs.declared.step.StateGrad.{StateGrad}
 
 unfoldable pub carried : (g-s g-d g-r : Float) → Grads

@@ -1,25 +1,25 @@
 // One step's reverse, through the branch that its record names.
 ghost use mathlib.Core.Path.{_≡_};
-ghost use Rattle.weights.specs.Weights.{_!_};
-ghost use Rattle.gradients.specs.Stability.{shortBack, shortMoved};
-ghost use Rattle.failure_gradients.specs.Failure.{failureBack, failureMoved};
-ghost use Rattle.success_gradients.specs.Success.{successBack, successMoved};
+ghost use Rattle.domain.specs.Weights.{_!_};
+ghost use Rattle.backward.specs.Stability.{shortBack, shortMoved};
+ghost use Rattle.backward.specs.Failure.{failureBack, failureMoved};
+ghost use Rattle.backward.specs.Success.{successBack, successMoved};
 ghost use Rattle.backward.specs.Own.{ownGrads, ownShort, ownFlow, ownMoved, alone};
 ghost use Rattle.backward.specs.Step.{carried, firstFlow, firstMoved, flowDef, flowMoved, recordCurve, stepGrad, stepMoved};
-use branches::stability::Branch;
-use curve_gradients::curve_backward;
-use curves::CurveCache;
-use difficulty_gradients::backward_difficulty;
-use difficulty_gradients::backward_init;
+use forward::stability::Branch;
+use crate::curve::curve_backward;
+use forward::curve::CurveCache;
+use crate::difficulty::backward_difficulty;
+use crate::difficulty::backward_init;
 use domain::floats::max;
-use failure_gradients::backward_failure;
+use crate::failure::backward_failure;
 use forward::step::StepRecord;
-use gradients::stability::Grads;
-use gradients::stability::backward_short;
-use parameters::RuntimeParams;
-use slots::slots::difficulty_grad;
-use slots::slots::stability_grad;
-use success_gradients::backward_success;
+use crate::stability::Grads;
+use crate::stability::backward_short;
+use forward::parameters::RuntimeParams;
+use crate::slots::difficulty_grad;
+use crate::slots::stability_grad;
+use crate::success::backward_success;
 
 // Gradients by a state's stability and difficulty.
 pub struct StateGrad {

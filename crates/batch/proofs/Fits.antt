@@ -5,10 +5,10 @@ use mathlib.Core.Bool.{true}
 use mathlib.Core.List.{List}
 use native.Mathlib.Nat.{le-refl}
 use native.Mathlib.Omega.{arith}
-use Rattle.words.specs.Words.{wordAt}
-use Rattle.headers.specs.Header.{sectionsOf, wellFormed}
-use Rattle.headers.specs.declared.Header.{Header}
-use Rattle.headers.proofs.Headers.{end-small, in-order}
+use Rattle.batch.specs.Words.{wordAt}
+use Rattle.batch.specs.Header.{sectionsOf, wellFormed}
+use Rattle.batch.specs.declared.headers.Header.{Header}
+use Rattle.batch.proofs.headers.Headers.{end-small, in-order}
 use Rattle.batch.specs.File.{inOrder}
 
 module _ (file : List ℕ) (w : wellFormed file ≡ true) where

@@ -7,12 +7,12 @@ use native.Mathlib.Nat.{le-trans, le-refl}
 use borrow.Author.Tests.{leb-true}
 use lib.Dec.{leb}
 use lib.ListN.{length}
-use Rattle.tables.specs.Tables.{cutAt}
-use Rattle.sizes.specs.Sizes.{most, longestDef}
-use Rattle.records.specs.Records.{roomDef}
-use Rattle.words.specs.Words.{wordAt}
-use Rattle.headers.specs.Header.{wellFormed, sectionsDef, sectionsOf, placed}
-use Rattle.headers.proofs.Sizes.{left-of, rows-small}
+use Rattle.checks.specs.Tables.{cutAt}
+use Rattle.checks.specs.Sizes.{most, longestDef}
+use Rattle.columns.specs.Records.{roomDef}
+use Rattle.batch.specs.Words.{wordAt}
+use Rattle.batch.specs.Header.{wellFormed, sectionsDef, sectionsOf, placed}
+use Rattle.batch.proofs.headers.Sizes.{left-of, rows-small}
 use Rattle.batch.specs.File.{RECORDS, STEPS}
 
 either-of : (a b n : ℕ) (t : Bool) → a ≤ n → b ≤ n → cond t b a ≤ n

@@ -6,14 +6,14 @@ use lib.Dec.{eqb}
 use lib.Ieee.{Float}
 use lib.ListN.{take, drop}
 use Rattle.domain.specs.Doubles.{zero64}
-use Rattle.words.specs.Words.{words, singles}
-use Rattle.headers.specs.Header.{sectionsOf, wellFormed}
-use Rattle.headers.specs.declared.Header.{Header}
-use Rattle.tables.specs.Batch.{Prefixes, Cards, prefixesOf, cardsOf}
-use Rattle.ends.specs.Ends.{answer}
-use Rattle.ends.specs.declared.Loss.{Loss}
-use Rattle.prefixes.specs.Prefixes.{batchLossAndGrad, batchSlots}
-use Rattle.cards.specs.Cards.{cardsLossAndGrad, cardsSlots}
+use Rattle.batch.specs.Words.{words, singles}
+use Rattle.batch.specs.Header.{sectionsOf, wellFormed}
+use Rattle.batch.specs.declared.headers.Header.{Header}
+use Rattle.checks.specs.Batch.{Prefixes, Cards, prefixesOf, cardsOf}
+use Rattle.columns.specs.Ends.{answer}
+use Rattle.columns.specs.declared.ends.Loss.{Loss}
+use Rattle.analytic_v6.specs.Prefixes.{batchLossAndGrad, batchSlots}
+use Rattle.analytic_v6.specs.Cards.{cardsLossAndGrad, cardsSlots}
 
 -- what stands from the word a up to the word e
 abbrev pub part : (a e : ℕ) (xs : List Float) → List Float

@@ -1,1 +1,3 @@
 pub mod File
+pub mod Header
+pub mod Words

@@ -1,16 +1,18 @@
 // A batch file, run as the one call that it holds.
+pub mod words;
+pub mod headers;
 ghost use mathlib.Core.Path.{_≡_};
 ghost use Prim.Native.Nat.{_≤_};
 ghost use lib.ListN.{length};
-ghost use Rattle.words.specs.Words.{words, singles};
+ghost use Rattle.batch.specs.Words.{words, singles};
 ghost use Rattle.batch.specs.File.{RECORDS, STEPS, inOrder, prefixLossIn, prefixSlotsIn, cardLossIn, cardSlotsIn, callLoss, callSlots, fileLoss, fileSlots};
-use cards::grad::card_loss_and_grad;
-use ends::Loss;
-use headers::Header;
-use headers::header_of;
-use prefixes::grad::batch_loss_and_grad;
-use words::fill_singles;
-use words::fill_words;
+use analytic_v6::cards::grad::card_loss_and_grad;
+use columns::ends::Loss;
+use crate::headers::Header;
+use crate::headers::header_of;
+use analytic_v6::prefixes::grad::batch_loss_and_grad;
+use crate::words::fill_singles;
+use crate::words::fill_words;
 
 // Words in the longest file.
 const WORDS: usize = 16384;

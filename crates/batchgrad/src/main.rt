@@ -1,7 +1,7 @@
 // Reads a batch file on standard input and prints the bits of its loss and of the 21 gradient slots, each started at +0.0: 22
 // lines of 16 hexadecimal digits; or `refused N`.
 use batch::run_file;
-use parts::units::pattern;
+use soft::units::pattern;
 
 const STDIN: i32 = 0;
 

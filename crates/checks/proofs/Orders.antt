@@ -6,8 +6,8 @@ use mathlib.Core.Path.{_≡_, refl, sym, _∙_, subst}
 use borrow.Author.Tests.{eq-eqb, ne-eqb, eqb-true}
 use lib.Dec.{T, eqb}
 use lib.Ieee.{Float}
-use Rattle.reads.specs.Reads.{check, first}
-use Rattle.weights.specs.Weights.{weightsRefusal}
+use Rattle.checks.specs.Reads.{check, first}
+use Rattle.domain.specs.Weights.{weightsRefusal}
 use Rattle.checks.specs.Refusals.{lossRefusal, gradRefusal}
 
 first-some : (a b : ℕ) → (a ≡ 0 → ⊥) → first a b ≡ a

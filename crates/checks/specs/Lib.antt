@@ -1,1 +1,7 @@
+pub mod Batch
+pub mod Columns
+pub mod Faults
+pub mod Reads
 pub mod Refusals
+pub mod Sizes
+pub mod Tables

@@ -5,11 +5,11 @@ use mathlib.Core.List.{List}
 use lib.Dec.{eqb, leb}
 use lib.Ieee.{Float}
 use lib.ListN.{length}
-use Rattle.reads.specs.Reads.{check, first}
-use Rattle.weights.specs.Weights.{weightsRefusal}
-use Rattle.tables.specs.Batch.{Table, Prefixes, Cards}
-use Rattle.faults.specs.Faults.{prefixFault, cardFault}
-use Rattle.sizes.specs.Sizes.{longestDef, prefixSized, cardSized}
+use Rattle.checks.specs.Reads.{check, first}
+use Rattle.domain.specs.Weights.{weightsRefusal}
+use Rattle.checks.specs.Batch.{Table, Prefixes, Cards}
+use Rattle.checks.specs.Faults.{prefixFault, cardFault}
+use Rattle.checks.specs.Sizes.{longestDef, prefixSized, cardSized}
 
 -- 'a loss-only entry .. lends no records, step gradients or slots, so it never gives 4 or 5'
 unfoldable pub lossRefusal : (w : List Float) (sized : Bool) (fault : ℕ) → ℕ

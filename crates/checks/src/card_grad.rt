@@ -1,12 +1,12 @@
 // The refusal of the card loss with its gradient.
 ghost use mathlib.Core.Path.{_≡_};
-ghost use Rattle.tables.specs.Batch.{cardsOf};
+ghost use Rattle.checks.specs.Batch.{cardsOf};
 ghost use Rattle.checks.specs.Refusals.{cardGradRefusal};
 use domain::floats::both;
-use faults::card::card_fault;
-use sizes::card_sized;
-use sizes::longest;
-use weights::weights_refusal;
+use crate::faults::card::card_fault;
+use crate::sizes::card_sized;
+use crate::sizes::longest;
+use domain::weights::weights_refusal;
 
 // 1, 2, 5, 3, 4, then the first fault. The last arguments count what is lent.
 pub fn card_grad_refusal(

@@ -1,11 +1,11 @@
 // The refusal of the prefix loss with its gradient.
 ghost use mathlib.Core.Path.{_≡_};
-ghost use Rattle.tables.specs.Batch.{prefixesOf};
+ghost use Rattle.checks.specs.Batch.{prefixesOf};
 ghost use Rattle.checks.specs.Refusals.{prefixGradRefusal};
-use faults::prefix::prefix_fault;
-use sizes::longest;
-use sizes::prefix_sized;
-use weights::weights_refusal;
+use crate::faults::prefix::prefix_fault;
+use crate::sizes::longest;
+use crate::sizes::prefix_sized;
+use domain::weights::weights_refusal;
 
 // 1, 2, 5, 3, 4, then the first fault. The last arguments count what is lent.
 pub fn prefix_grad_refusal(

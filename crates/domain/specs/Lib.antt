@@ -1,3 +1,4 @@
 pub mod Doubles
 pub mod Floats
 pub mod Limits
+pub mod Weights

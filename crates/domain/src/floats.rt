@@ -59,7 +59,7 @@ pub fn min(x: f32, y: f32) -> f32
 pub fn is_finite(x: f32) -> bool
     ensures { λ r. ⌜ r ≡ finite x ⌝ }
 {
-    parts::units::is_finite(std::num::f32_to_f64_with_nan(x))
+    soft::units::is_finite(std::num::f32_to_f64_with_nan(x))
 }
 
 // Both ends belong; a NaN is nowhere within.

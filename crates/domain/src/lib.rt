@@ -2,3 +2,6 @@
 // (`limits`). That of the difficulty is in `difficulties`.
 pub mod floats;
 pub mod limits;
+pub mod difficulty;
+pub mod weights;
+pub mod defaults;

@@ -8,13 +8,13 @@ use lib.Ieee.{Float, neg, eq}
 use borrow.Author.Tests.{eq-eqb}
 use mathlib.Core.Bool.{or-assoc}
 use Rattle.domain.specs.Limits.{zero32, one, two, four}
-use Rattle.weights.specs.Weights.{_!_}
-use Rattle.curves.specs.Curve.{curveForward}
-use Rattle.parameters.specs.Params.{curveFactor, paramsDef}
+use Rattle.domain.specs.Weights.{_!_}
+use Rattle.forward.specs.Curve.{curveForward}
+use Rattle.forward.specs.Params.{curveFactor, paramsDef}
 use Rattle.forward.specs.Reads.{among, firstWeights, common, successWeights, reviewReads, stepReads, Agree}
-use Rattle.branches.specs.Stability.{successDef}
+use Rattle.forward.specs.Stability.{successDef}
 use Rattle.forward.specs.Step.{clampState, ratingNumber, isFirst, moveDef, firstDef, reviewDef, stepDef}
-use Rattle.branches.specs.declared.stability.State.{State}
+use Rattle.forward.specs.declared.stability.State.{State}
 
 -- a choice between equal things, each under its test
 pub by-cases : {A : Type 0} (b : Bool) (x y x′ y′ : A) → (b ≡ true → x ≡ x′) → (b ≡ false → y ≡ y′) → cond b x y ≡ cond b x′ y′

@@ -6,9 +6,9 @@ use mathlib.Core.Path.{_≡_}
 use lib.Dec.{eqb}
 use lib.Ieee.{Float, eq}
 use Rattle.domain.specs.Limits.{zero32, one, two, four}
-use Rattle.weights.specs.Weights.{_!_}
+use Rattle.domain.specs.Weights.{_!_}
 use Rattle.forward.specs.Step.{ratingNumber, isFirst}
-use Rattle.branches.specs.declared.stability.State.{State}
+use Rattle.forward.specs.declared.stability.State.{State}
 
 -- k is one of ks
 unfoldable pub among : (k : ℕ) (ks : List ℕ) → Bool

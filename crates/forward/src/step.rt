@@ -2,17 +2,17 @@
 ghost use mathlib.Core.Path.{_≡_};
 ghost use Prim.Native.Nat.{_<_};
 ghost use Rattle.forward.specs.Step.{clampState, ratingNumber, isFirst, difficultyDef, moveDef, paddingDef, firstDef, reviewDef, stepDef};
-use branches::stability::Branch;
-use branches::stability::Move;
-use branches::stability::State;
-use branches::stability::lapse;
-use branches::stability::same_day;
-use branches::stability::success;
-use curves::curve_forward;
-use difficulties::clamp_difficulty;
+use crate::stability::Branch;
+use crate::stability::Move;
+use crate::stability::State;
+use crate::stability::lapse;
+use crate::stability::same_day;
+use crate::stability::success;
+use crate::curve::curve_forward;
+use domain::difficulty::clamp_difficulty;
 use domain::limits::clamp_stability;
-use parameters::RuntimeParams;
-use parameters::init_difficulty;
+use crate::parameters::RuntimeParams;
+use crate::parameters::init_difficulty;
 
 // What a reverse step needs: the state as given and as clamped, the day (+0.0 where it goes unread), the rating, the
 // retrievability, the outputs before their clamp, and the taken branch with its numbers.

@@ -6,7 +6,7 @@ use mathlib.Core.List.{List, [], _∷_}
 use lib.Dec.{leb}
 use lib.IntN.{ℤ, pos, negsuc, _+ℤ_}
 use lib.Ieee.{Format, binary32, binary64, size}
-use Rattle.exact.specs.Exact.{N, fact}
+use Rattle.table.specs.Exact.{N, fact}
 use Rattle.table.specs.Entry.{entry}
 
 -- ---- the coefficients, c 1, c 2, .. c n. Single results take shorter chains

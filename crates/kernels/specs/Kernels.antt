@@ -4,7 +4,7 @@ use mathlib.Core.Bool.{Bool, true, false, _&&_, cond}
 use lib.Dec.{leb, ltb}
 use lib.IntN.{ℤ, pos}
 use lib.Ieee.{Float, nan, inf, fin, Format, emax, unlike, up, down, round, le}
-use Rattle.exact.specs.Exact.{N}
+use Rattle.table.specs.Exact.{N}
 use Rattle.kernels.specs.Core.{biased, mantissa, Fixed, logarithm}
 
 -- the float for M / 2 ^ 62 * 2 ^ (K - 2048): +0 below the normal range, +infinity above it, the nearest one within

@@ -1,2 +1,8 @@
-// Definitions and laws alone, no code: exp, ln and pow for f32 and f64, every bit fixed over whole numbers (specs/,
-// docs/KERNELS.md). The code is in `exp` and `ln_pow`.
+pub mod exp;
+// ln and pow for f32 and f64, on one fixed-point logarithm, each equal to its definition in `kernels`. None asks anything
+// of its caller.
+pub mod both;
+mod index;
+pub mod ln;
+mod logarithm;
+pub mod pow;

@@ -1,5 +1,5 @@
 // What a call expects: the refusal and the loss.
-use ends::Loss;
+use columns::ends::Loss;
 use vectors::patterns::pattern_f64;
 use vectors::patterns::pattern_u32;
 

@@ -1,9 +1,9 @@
 // The four entries on a call's slices. An entry leaves out what it does not take.
-use card_losses::card_loss;
-use cards::grad::card_loss_and_grad;
-use ends::Loss;
-use prefix_losses::batch_loss;
-use prefixes::grad::batch_loss_and_grad;
+use analytic_v6::card_losses::card_loss;
+use analytic_v6::cards::grad::card_loss_and_grad;
+use columns::ends::Loss;
+use analytic_v6::prefix_losses::batch_loss;
+use analytic_v6::prefixes::grad::batch_loss_and_grad;
 use vectors::patterns::u32_of;
 use vectors::slices::length_at;
 use vectors::slices::set_lengths;

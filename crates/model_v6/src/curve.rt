@@ -1,17 +1,17 @@
 // The forgetting curve and its inverse, with their checks.
 ghost use mathlib.Core.Path.{_≡_};
-ghost use Rattle.curve_formulas.specs.Curve.{curveDef, intervalDef};
-ghost use Rattle.scalars.specs.Answers.{curveGood, intervalGood, scalarDef};
-use curve_formulas::next_interval;
-use curve_formulas::power_forgetting_curve;
+ghost use Rattle.model_v6.specs.Curve.{curveDef, intervalDef};
+ghost use Rattle.model_v6.specs.Answers.{curveGood, intervalGood, scalarDef};
+use crate::formulas::curve::next_interval;
+use crate::formulas::curve::power_forgetting_curve;
 use domain::floats::both;
 use domain::floats::is_finite;
 use domain::limits::is_day;
-use scalars::Scalar;
-use scalars::accepted;
-use scalars::refused;
-use scalars::scalar_refusal;
-use weights::copy_weights;
+use crate::answers::Scalar;
+use crate::answers::accepted;
+use crate::answers::refused;
+use crate::answers::scalar_refusal;
+use domain::weights::copy_weights;
 
 // What is remembered t days after a review that left the stability s.
 pub fn power_forgetting_curve_scalar(w: &[f32], t: f32, s: f32) -> Scalar

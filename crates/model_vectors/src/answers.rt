@@ -1,9 +1,9 @@
 // What a line expects. Of its 24 words the first four are arguments, the fifth is the number of a
 // refusal and the next two are values. Where the answer is a set of weights, the refusal is the first
 // word and the weights follow.
-use filling::Filled;
-use review_v6::state::NextState;
-use scalars::Scalar;
+use model_v6::filling::Filled;
+use model_v6::state::NextState;
+use model_v6::answers::Scalar;
 use vectors::patterns::pattern_bool;
 use vectors::patterns::pattern_f32;
 use vectors::patterns::pattern_u32;

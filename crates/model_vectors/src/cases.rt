@@ -9,9 +9,9 @@ use crate::answers::is_value;
 use crate::answers::is_weights;
 use domain::floats;
 use domain::limits;
-use formulas::state::MemoryState;
+use model_v6::formulas::state::MemoryState;
 use model_v6::curve;
-use review_v6::state;
+use model_v6::state;
 use vectors::patterns::f32_of;
 use vectors::patterns::u32_of;
 
@@ -30,9 +30,9 @@ fn number_passes(row: usize, k: &[u64; 24]) -> bool {
         7 => is_value(k, limits::floor_stability(x)),
         8 => is_value(k, limits::clamp_stability(x)),
         9 => is_value(k, limits::clamp_interval(x)),
-        10 => is_value(k, difficulties::clamp_difficulty(x)),
+        10 => is_value(k, domain::difficulty::clamp_difficulty(x)),
         11 => is_truth(k, limits::is_stability(x)),
-        12 => is_truth(k, difficulties::is_difficulty(x)),
+        12 => is_truth(k, domain::difficulty::is_difficulty(x)),
         13 => is_truth(k, limits::is_day(x)),
         _ => false,
     }
@@ -40,11 +40,11 @@ fn number_passes(row: usize, k: &[u64; 24]) -> bool {
 
 fn weights_pass(row: usize, k: &[u64; 24], w: &[f32]) -> bool {
     match row {
-        14 => is_refusal(k, weights::weights_refusal(w)),
-        15 => is_truth(k, defaults::all_finite(w)),
-        16 => is_weights(k, defaults::default_weights()),
-        17 => is_weights(k, weights::copy_weights(w)),
-        18 => is_filled(k, filling::check_and_fill_parameters_fsrs6(w)),
+        14 => is_refusal(k, domain::weights::weights_refusal(w)),
+        15 => is_truth(k, domain::defaults::all_finite(w)),
+        16 => is_weights(k, domain::defaults::default_weights()),
+        17 => is_weights(k, domain::weights::copy_weights(w)),
+        18 => is_filled(k, model_v6::filling::check_and_fill_parameters_fsrs6(w)),
         _ => false,
     }
 }
@@ -69,16 +69,16 @@ fn model_passes(row: usize, k: &[u64; 24], w: &[f32]) -> bool {
         20 => is_scalar(k, curve::next_interval_scalar(w, x, y)),
         21 => is_scalar(
             k,
-            stability_v6::stability_after_success_scalar(w, x, y, z, u32_of(k[3])),
+            model_v6::stability::stability_after_success_scalar(w, x, y, z, u32_of(k[3])),
         ),
-        22 => is_scalar(k, stability_v6::stability_after_failure_scalar(w, x, y, z)),
+        22 => is_scalar(k, model_v6::stability::stability_after_failure_scalar(w, x, y, z)),
         23 => is_scalar(
             k,
-            stability_v6::stability_short_term_scalar(w, x, u32_of(k[1])),
+            model_v6::stability::stability_short_term_scalar(w, x, u32_of(k[1])),
         ),
-        24 => is_scalar(k, difficulty_v6::init_difficulty_scalar(w, u32_of(k[0]))),
-        25 => is_scalar(k, difficulty_v6::mean_reversion_scalar(w, x, y)),
-        26 => is_scalar(k, difficulty_v6::next_difficulty_scalar(w, x, u32_of(k[1]))),
+        24 => is_scalar(k, model_v6::difficulty::init_difficulty_scalar(w, u32_of(k[0]))),
+        25 => is_scalar(k, model_v6::difficulty::mean_reversion_scalar(w, x, y)),
+        26 => is_scalar(k, model_v6::difficulty::next_difficulty_scalar(w, x, u32_of(k[1]))),
         27 => state_passes(k, w),
         _ => false,
     }

@@ -1,36 +1,36 @@
 -- One outcome: the C functions. A line for each function: its answer, then each parameter in turn. Assumes nothing.
 use Rattle.outcomes.specs.Outcome.{One, one}
 use Rattle.outcomes.proofs.Tuples.{_⨾_, none, end}
-use Rattle.places.proofs.put_f32
-use Rattle.places.proofs.put_f64
-use Rattle.places.proofs.put_weights
-use Rattle.fsrs6_kernels.proofs.scalar.fsrs_exp_f32
-use Rattle.fsrs6_kernels.proofs.scalar.fsrs_exp_f64
-use Rattle.fsrs6_kernels.proofs.scalar.fsrs_ln_f32
-use Rattle.fsrs6_kernels.proofs.scalar.fsrs_ln_f64
-use Rattle.fsrs6_kernels.proofs.scalar.fsrs_pow_f32
-use Rattle.fsrs6_kernels.proofs.scalar.fsrs_pow_f64
-use Rattle.fsrs6_rounding.proofs.fsrs_fma_f32
-use Rattle.fsrs6_rounding.proofs.fsrs_fma_f64
-use Rattle.fsrs6_rounding.proofs.fsrs_round_f32
-use Rattle.fsrs6_rounding.proofs.fsrs_round_f64
-use Rattle.fsrs6_formulas.proofs.curve.fsrs_power_forgetting_curve
-use Rattle.fsrs6_formulas.proofs.curve.fsrs_next_interval
-use Rattle.fsrs6_formulas.proofs.state.fsrs_next_state
-use Rattle.fsrs6_formulas.proofs.weight_set.fsrs_check_and_fill_parameters
-use Rattle.fsrs6_stability.proofs.fsrs_stability_after_success
-use Rattle.fsrs6_stability.proofs.fsrs_stability_after_failure
-use Rattle.fsrs6_stability.proofs.fsrs_stability_short_term
-use Rattle.fsrs6_difficulty.proofs.fsrs_init_difficulty
-use Rattle.fsrs6_difficulty.proofs.fsrs_mean_reversion
-use Rattle.fsrs6_difficulty.proofs.fsrs_next_difficulty
-use Rattle.fsrs6_step.proofs.step.fsrs_training_step
-use Rattle.fsrs6_step.proofs.step_backward.fsrs_training_step_backward
-use Rattle.fsrs6_losses.proofs.batch_grad.fsrs_batch_loss_and_grad
-use Rattle.fsrs6_losses.proofs.batch_loss.fsrs_batch_loss
-use Rattle.fsrs6_losses.proofs.card_grad.fsrs_card_loss_and_grad
-use Rattle.fsrs6_losses.proofs.card_loss.fsrs_card_loss
-use Rattle.fsrs6_file.proofs.fsrs_batch_file
+use Rattle.fsrs6.proofs.places.put_f32
+use Rattle.fsrs6.proofs.places.put_f64
+use Rattle.fsrs6.proofs.places.put_weights
+use Rattle.fsrs6.proofs.kernels_face.scalar.fsrs_exp_f32
+use Rattle.fsrs6.proofs.kernels_face.scalar.fsrs_exp_f64
+use Rattle.fsrs6.proofs.kernels_face.scalar.fsrs_ln_f32
+use Rattle.fsrs6.proofs.kernels_face.scalar.fsrs_ln_f64
+use Rattle.fsrs6.proofs.kernels_face.scalar.fsrs_pow_f32
+use Rattle.fsrs6.proofs.kernels_face.scalar.fsrs_pow_f64
+use Rattle.fsrs6.proofs.rounding_face.fsrs_fma_f32
+use Rattle.fsrs6.proofs.rounding_face.fsrs_fma_f64
+use Rattle.fsrs6.proofs.rounding_face.fsrs_round_f32
+use Rattle.fsrs6.proofs.rounding_face.fsrs_round_f64
+use Rattle.fsrs6.proofs.formulas_face.curve.fsrs_power_forgetting_curve
+use Rattle.fsrs6.proofs.formulas_face.curve.fsrs_next_interval
+use Rattle.fsrs6.proofs.formulas_face.state.fsrs_next_state
+use Rattle.fsrs6.proofs.formulas_face.weight_set.fsrs_check_and_fill_parameters
+use Rattle.fsrs6.proofs.stability_face.fsrs_stability_after_success
+use Rattle.fsrs6.proofs.stability_face.fsrs_stability_after_failure
+use Rattle.fsrs6.proofs.stability_face.fsrs_stability_short_term
+use Rattle.fsrs6.proofs.difficulty_face.fsrs_init_difficulty
+use Rattle.fsrs6.proofs.difficulty_face.fsrs_mean_reversion
+use Rattle.fsrs6.proofs.difficulty_face.fsrs_next_difficulty
+use Rattle.fsrs6.proofs.step_face.step.fsrs_training_step
+use Rattle.fsrs6.proofs.step_face.step_backward.fsrs_training_step_backward
+use Rattle.fsrs6.proofs.batch_grad.fsrs_batch_loss_and_grad
+use Rattle.fsrs6.proofs.batch_loss.fsrs_batch_loss
+use Rattle.fsrs6.proofs.card_grad.fsrs_card_loss_and_grad
+use Rattle.fsrs6.proofs.card_loss.fsrs_card_loss
+use Rattle.fsrs6.proofs.file_face.fsrs_batch_file
 
 -- places
 pub one-put-f32 : One put_f32.Kinds.ps put_f32.Kinds.r put_f32.Reads.Post

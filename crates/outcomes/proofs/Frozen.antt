@@ -3,7 +3,7 @@ use Prim.Native.Nat.{ℕ}
 use mathlib.Core.List.{List}
 use mathlib.Core.Path.{_≡_, sym, ap, _∙_}
 use lib.Ieee.{Float}
-use Rattle.weights.specs.Weights.{_!_}
+use Rattle.domain.specs.Weights.{_!_}
 use Rattle.promises.proofs.Frozen.{demand3}
 use Rattle.outcomes.specs.Frozen.{prefix-call, prefix-weights, prefix-input, card-call, card-weights, card-input, FrozenEntries}
 

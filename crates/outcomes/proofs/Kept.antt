@@ -4,37 +4,37 @@ use Rattle.outcomes.specs.Outcome.{Kept, keeps}
 use Rattle.outcomes.proofs.Tuples.{_⨾_, end, still, back}
 use Rattle.outcomes.proofs.Refused.{refused}
 use Rattle.analytic_v6.proofs.step.training_step_backward
-use Rattle.prefixes.proofs.grad.batch_loss_and_grad
-use Rattle.cards.proofs.grad.card_loss_and_grad
+use Rattle.analytic_v6.proofs.prefixes.grad.batch_loss_and_grad
+use Rattle.analytic_v6.proofs.cards.grad.card_loss_and_grad
 use Rattle.batch.proofs.run_file
-use Rattle.places.proofs.put_f32
-use Rattle.places.proofs.put_f64
-use Rattle.places.proofs.put_weights
-use Rattle.fsrs6_formulas.proofs.curve.fsrs_power_forgetting_curve
-use Rattle.fsrs6_formulas.proofs.curve.fsrs_next_interval
-use Rattle.fsrs6_formulas.proofs.state.fsrs_next_state
-use Rattle.fsrs6_formulas.proofs.weight_set.fsrs_check_and_fill_parameters
-use Rattle.fsrs6_stability.proofs.fsrs_stability_after_success
-use Rattle.fsrs6_stability.proofs.fsrs_stability_after_failure
-use Rattle.fsrs6_stability.proofs.fsrs_stability_short_term
-use Rattle.fsrs6_difficulty.proofs.fsrs_init_difficulty
-use Rattle.fsrs6_difficulty.proofs.fsrs_mean_reversion
-use Rattle.fsrs6_difficulty.proofs.fsrs_next_difficulty
-use Rattle.fsrs6_step.proofs.step.fsrs_training_step
-use Rattle.fsrs6_step.proofs.step_backward.fsrs_training_step_backward
-use Rattle.fsrs6_losses.proofs.batch_grad.fsrs_batch_loss_and_grad
-use Rattle.fsrs6_losses.proofs.batch_loss.fsrs_batch_loss
-use Rattle.fsrs6_losses.proofs.card_grad.fsrs_card_loss_and_grad
-use Rattle.fsrs6_losses.proofs.card_loss.fsrs_card_loss
-use Rattle.fsrs6_file.proofs.fsrs_batch_file
+use Rattle.fsrs6.proofs.places.put_f32
+use Rattle.fsrs6.proofs.places.put_f64
+use Rattle.fsrs6.proofs.places.put_weights
+use Rattle.fsrs6.proofs.formulas_face.curve.fsrs_power_forgetting_curve
+use Rattle.fsrs6.proofs.formulas_face.curve.fsrs_next_interval
+use Rattle.fsrs6.proofs.formulas_face.state.fsrs_next_state
+use Rattle.fsrs6.proofs.formulas_face.weight_set.fsrs_check_and_fill_parameters
+use Rattle.fsrs6.proofs.stability_face.fsrs_stability_after_success
+use Rattle.fsrs6.proofs.stability_face.fsrs_stability_after_failure
+use Rattle.fsrs6.proofs.stability_face.fsrs_stability_short_term
+use Rattle.fsrs6.proofs.difficulty_face.fsrs_init_difficulty
+use Rattle.fsrs6.proofs.difficulty_face.fsrs_mean_reversion
+use Rattle.fsrs6.proofs.difficulty_face.fsrs_next_difficulty
+use Rattle.fsrs6.proofs.step_face.step.fsrs_training_step
+use Rattle.fsrs6.proofs.step_face.step_backward.fsrs_training_step_backward
+use Rattle.fsrs6.proofs.batch_grad.fsrs_batch_loss_and_grad
+use Rattle.fsrs6.proofs.batch_loss.fsrs_batch_loss
+use Rattle.fsrs6.proofs.card_grad.fsrs_card_loss_and_grad
+use Rattle.fsrs6.proofs.card_loss.fsrs_card_loss
+use Rattle.fsrs6.proofs.file_face.fsrs_batch_file
 
 -- These lend by `&mut` and have no refusal: what each leaves is stated by its contract, for every call.
--- never refuse: tables::write tables::write_f64 records::store_step words::fill_words words::fill_singles
--- never refuse: slots::slots::add slots::slots::add_if
--- never refuse: difficulty_gradients::backward_difficulty difficulty_gradients::backward_init curve_gradients::curve_backward
--- never refuse: gradients::stability::backward_short failure_gradients::backward_failure success_gradients::backward_success
--- never refuse: backward::step::step_backward reverse_walk::walk_back stored_path::run_stored stored_scores::run_scored_stored
--- never refuse: ends::target_end ends::last_end
+-- never refuse: checks::tables::write checks::tables::write_f64 columns::records::store_step batch::words::fill_words batch::words::fill_singles
+-- never refuse: backward::slots::add backward::slots::add_if
+-- never refuse: backward::difficulty::backward_difficulty backward::difficulty::backward_init backward::curve::curve_backward
+-- never refuse: backward::stability::backward_short backward::failure::backward_failure backward::success::backward_success
+-- never refuse: backward::step::step_backward columns::reverse_walk::walk_back columns::stored_path::run_stored columns::stored_scores::run_scored_stored
+-- never refuse: columns::ends::target_end columns::ends::last_end
 
 -- analytic_v6
 pub kept-training-step-backward : Kept training_step_backward.Kinds.ps training_step_backward.Kinds.r (λ κs a z. z .refusal) (λ κs e. e) training_step_backward.Reads.Post

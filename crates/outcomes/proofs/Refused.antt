@@ -7,21 +7,21 @@ use borrow.Author.Tests.{eq-eqb, ne-eqb}
 use lib.Dec.{eqb}
 use lib.Ieee.{Float, nan}
 use lib.ListN.{length, replicate, length-replicate}
-use Rattle.places.specs.Places.{written}
-use Rattle.fsrs6_step.specs.Numbers.{recorded}
+use Rattle.fsrs6.specs.Places.{written}
+use Rattle.fsrs6.specs.Numbers.{recorded}
 use Rattle.forward.specs.declared.step.StepRecord.{StepRecord}
-use Rattle.branches.specs.declared.stability.State.{State}
+use Rattle.forward.specs.declared.stability.State.{State}
 use Rattle.analytic_v6.specs.Step.{reverseRefusal, trainingReverse, reverseSlots}
 use Rattle.analytic_v6.proofs.Entry.{slots-refused}
-use Rattle.ends.specs.Ends.{answer}
-use Rattle.ends.specs.declared.Loss.{Loss}
-use Rattle.tables.specs.Batch.{Prefixes, Cards}
-use Rattle.prefixes.specs.Prefixes.{batchLossAndGrad, batchSlots, batchRecords}
-use Rattle.prefixes.proofs.Laws as prefix-laws
-use Rattle.cards.specs.Cards.{cardsLossAndGrad, cardsSlots, cardsRecords, cardsGrads}
-use Rattle.cards.proofs.Laws as card-laws
-use Rattle.headers.specs.Header.{sectionsOf, wellFormed}
-use Rattle.headers.specs.declared.Header.{Header}
+use Rattle.columns.specs.Ends.{answer}
+use Rattle.columns.specs.declared.ends.Loss.{Loss}
+use Rattle.checks.specs.Batch.{Prefixes, Cards}
+use Rattle.analytic_v6.specs.Prefixes.{batchLossAndGrad, batchSlots, batchRecords}
+use Rattle.analytic_v6.proofs.prefixes.Laws as prefix-laws
+use Rattle.analytic_v6.specs.Cards.{cardsLossAndGrad, cardsSlots, cardsRecords, cardsGrads}
+use Rattle.analytic_v6.proofs.cards.Laws as card-laws
+use Rattle.batch.specs.Header.{sectionsOf, wellFormed}
+use Rattle.batch.specs.declared.headers.Header.{Header}
 use Rattle.batch.specs.File.{prefixLossIn, prefixSlotsIn, cardLossIn, cardSlotsIn, callLoss, callSlots, cellsOf, lengthsOf, fileLoss, fileSlots}
 
 -- ---- a lent place, and the ten numbers of a record

@@ -1,27 +1,27 @@
 -- One outcome: the training step and its reverse. A line for each function: its answer, then each parameter in turn. Assumes nothing.
 use Rattle.outcomes.specs.Outcome.{One, one}
 use Rattle.outcomes.proofs.Tuples.{_⨾_, none, end}
-use Rattle.parameters.proofs.init_difficulty
-use Rattle.parameters.proofs.runtime_params
-use Rattle.curves.proofs.curve_forward
-use Rattle.branches.proofs.stability.same_day
-use Rattle.branches.proofs.stability.lapse
-use Rattle.branches.proofs.stability.success
+use Rattle.forward.proofs.parameters.init_difficulty
+use Rattle.forward.proofs.parameters.runtime_params
+use Rattle.forward.proofs.curve.curve_forward
+use Rattle.forward.proofs.stability.same_day
+use Rattle.forward.proofs.stability.lapse
+use Rattle.forward.proofs.stability.success
 use Rattle.forward.proofs.step.clamp_state
 use Rattle.forward.proofs.step.rating_number
 use Rattle.forward.proofs.step.is_first
 use Rattle.forward.proofs.step.step_forward
-use Rattle.slots.proofs.slots.add
-use Rattle.slots.proofs.slots.add_if
-use Rattle.slots.proofs.slots.stability_grad
-use Rattle.slots.proofs.slots.difficulty_grad
-use Rattle.difficulty_gradients.proofs.backward_difficulty
-use Rattle.difficulty_gradients.proofs.backward_init
-use Rattle.curve_gradients.proofs.curve_backward
-use Rattle.gradients.proofs.stability.no_grads
-use Rattle.gradients.proofs.stability.backward_short
-use Rattle.failure_gradients.proofs.backward_failure
-use Rattle.success_gradients.proofs.backward_success
+use Rattle.backward.proofs.slots.add
+use Rattle.backward.proofs.slots.add_if
+use Rattle.backward.proofs.slots.stability_grad
+use Rattle.backward.proofs.slots.difficulty_grad
+use Rattle.backward.proofs.difficulty.backward_difficulty
+use Rattle.backward.proofs.difficulty.backward_init
+use Rattle.backward.proofs.curve.curve_backward
+use Rattle.backward.proofs.stability.no_grads
+use Rattle.backward.proofs.stability.backward_short
+use Rattle.backward.proofs.failure.backward_failure
+use Rattle.backward.proofs.success.backward_success
 use Rattle.backward.proofs.step.step_backward
 use Rattle.analytic_v6.proofs.step.training_step
 use Rattle.analytic_v6.proofs.step.training_step_backward

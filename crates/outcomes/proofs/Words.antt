@@ -3,9 +3,9 @@ use Prim.Native.Nat.{ℕ, _+_, _*_, _^_, _<_}
 use mathlib.Core.Path.{_≡_}
 use native.Mathlib.Omega.{arith}
 use contract.Lifetimes.{Lfts}
-use Rattle.wide.proofs.product
-use Rattle.wide.specs.Value.{valueOf}
-use Rattle.wide.specs.declared.Wide.{Wide}
+use Rattle.soft.proofs.wide.product
+use Rattle.soft.specs.Value.{valueOf}
+use Rattle.soft.specs.declared.wide.Wide.{Wide}
 
 upper : (h l h′ l′ : ℕ) → l < 2 ^ 64 → l′ < 2 ^ 64 → h * 2 ^ 64 + l ≡ h′ * 2 ^ 64 + l′ → h ≡ h′
 upper h l h′ l′ b b′ e = omega arith

@@ -9,12 +9,12 @@ use denote.Triple.Clauses.{AtExit}
 use borrow.Fn.Kinds.{PK, RK, Out, Dens, endedOf}
 use lib.Ieee.{Float}
 use lib.ListN.{length}
-use Rattle.weights.specs.Weights.{_!_}
-use Rattle.tables.specs.Batch.{Prefixes, Cards, prefixesOf, cardsOf}
-use Rattle.prefixes.proofs.grad.batch_loss_and_grad
-use Rattle.prefix_losses.proofs.batch_loss
-use Rattle.cards.proofs.grad.card_loss_and_grad
-use Rattle.card_losses.proofs.card_loss
+use Rattle.domain.specs.Weights.{_!_}
+use Rattle.checks.specs.Batch.{Prefixes, Cards, prefixesOf, cardsOf}
+use Rattle.analytic_v6.proofs.prefixes.grad.batch_loss_and_grad
+use Rattle.analytic_v6.proofs.prefix_losses.batch_loss
+use Rattle.analytic_v6.proofs.cards.grad.card_loss_and_grad
+use Rattle.analytic_v6.proofs.card_losses.card_loss
 use Rattle.promises.specs.Calls.{Call, Kind, prefixes, cards}
 use Rattle.promises.specs.Frozen.{SameInputs, SameWeights, Alike, mayMove}
 use Rattle.outcomes.specs.Outcome.{Outcome, left, Satisfies}

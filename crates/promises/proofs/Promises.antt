@@ -1,5 +1,5 @@
 -- All of it. Assumes nothing.
-use Rattle.distances.proofs.Kernels.{kernels}
+use Rattle.laws.proofs.Distances.Kernels.{kernels}
 use Rattle.promises.specs.Promises.{Promises}
 use Rattle.promises.proofs.Twelve.{twelve}
 use Rattle.promises.proofs.Frozen.{demand3}

@@ -3,22 +3,22 @@ use mathlib.Core.Path.{_≡_, refl}
 use mathlib.Core.Bool.{true, false}
 use mathlib.Core.List.{List}
 use lib.Ieee.{Float, binary32, binary64, neg, lt, le, round, sub, sum, ofBits, toBits}
-use Rattle.parts.proofs.units.Value.{holds}
+use Rattle.soft.proofs.units.Value.{holds}
 use Rattle.domain.specs.Floats.{_*ᶠ_, _/ᶠ_, clampDef}
 use Rattle.domain.specs.Limits.{decimal, S_MIN, S_MAX, DAY_MAX, dayGood}
-use Rattle.fma.specs.Fma.{fmaDef, times, plus}
-use Rattle.half_away.specs.HalfAway.{roundDef}
+use Rattle.soft.specs.Fma.{fmaDef, times, plus}
+use Rattle.soft.specs.HalfAway.{roundDef}
 use Rattle.kernels.specs.Calls.{exp32}
-use Rattle.weights.specs.Weights.{_!_}
-use Rattle.branches.specs.declared.stability.State.{State}
+use Rattle.domain.specs.Weights.{_!_}
+use Rattle.forward.specs.declared.stability.State.{State}
 use Rattle.forward.specs.Step.{clampState, paddingDef, stepDef}
-use Rattle.scores.specs.Scores.{MIN_PROB, MAX_PROB, noScore, scoreDef}
-use Rattle.reads.specs.Reads.{check, first, prefixRow, cardRow, targetDef}
-use Rattle.ends.specs.Ends.{targetLoss, targetGrad, targetSlots}
-use Rattle.values.proofs.Defaults.{single, boxed, first-state}
-use Rattle.values.proofs.Steps.{Ready, same-stability, same-branch, lapse-stability, lapse-branch, early-stability, same-difficulty}
+use Rattle.columns.specs.Scores.{MIN_PROB, MAX_PROB, noScore, scoreDef}
+use Rattle.checks.specs.Reads.{check, first, prefixRow, cardRow, targetDef}
+use Rattle.columns.specs.Ends.{targetLoss, targetGrad, targetSlots}
+use Rattle.laws.proofs.Values.Defaults.{single, boxed, first-state}
+use Rattle.laws.proofs.Values.Steps.{Ready, same-stability, same-branch, lapse-stability, lapse-branch, early-stability, same-difficulty}
 use Rattle.promises.specs.Twelve.{Weights, InRange, Value1, Value2, Value3, Value4, Value5, Value6, Value7, Value8, Value9, Value10, Value11, Value12, NextDay, InPrefix, InCard, InTarget, last, next, Twelve}
-use Rattle.distances.proofs.Values.{exp-zero}
+use Rattle.laws.proofs.Distances.Values.{exp-zero}
 
 -- ---- the kernels
 value-1 : Value1

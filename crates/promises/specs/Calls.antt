@@ -5,14 +5,14 @@ use mathlib.Core.List.{List, []}
 use lib.Dec.{leb}
 use lib.Ieee.{Float}
 use lib.ListN.{length}
-use Rattle.weights.specs.Weights.{_!_}
-use Rattle.reads.specs.Reads.{nonZero, cardLabel}
-use Rattle.tables.specs.Batch.{Table, Prefixes, Cards, lengthAt, at}
+use Rattle.domain.specs.Weights.{_!_}
+use Rattle.checks.specs.Reads.{nonZero, cardLabel}
+use Rattle.checks.specs.Batch.{Table, Prefixes, Cards, lengthAt, at}
 use Rattle.checks.specs.Refusals.{longestOf, prefixLossRefusal, prefixGradRefusal, cardLossRefusal, cardGradRefusal}
-use Rattle.records.specs.Records.{roomDef}
-use Rattle.ends.specs.declared.Loss.{Loss}
-use Rattle.prefixes.specs.Prefixes.{batchLossAndGrad, batchSlots, batchLoss}
-use Rattle.cards.specs.Cards.{cardsLossAndGrad, cardsSlots, cardsLoss}
+use Rattle.columns.specs.Records.{roomDef}
+use Rattle.columns.specs.declared.ends.Loss.{Loss}
+use Rattle.analytic_v6.specs.Prefixes.{batchLossAndGrad, batchSlots, batchLoss}
+use Rattle.analytic_v6.specs.Cards.{cardsLossAndGrad, cardsSlots, cardsLoss}
 use Rattle.promises.specs.Reads.{Slice, days, ratings, targets, labels, weights, prefixCell, prefixReads, cardCell, cardReads}
 
 -- what a gradient call is lent: weights, cells, starting gradients, and room: singles for records, doubles for step gradients (of which a prefix is lent none)

@@ -6,8 +6,8 @@ use mathlib.Core.Path.{_≡_}
 use lib.Dec.{ltb}
 use lib.Ieee.{Float}
 use lib.ListN.{length, set}
-use Rattle.weights.specs.Weights.{_!_, inBox, weightsRefusal}
-use Rattle.tables.specs.Batch.{lengthAt}
+use Rattle.domain.specs.Weights.{_!_, inBox, weightsRefusal}
+use Rattle.checks.specs.Batch.{lengthAt}
 use Rattle.promises.specs.Reads.{Slice, callReads, callMoves}
 use Rattle.promises.specs.Calls.{Call, Kind, prefixes, cards}
 

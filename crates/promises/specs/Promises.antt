@@ -1,6 +1,6 @@
 -- What is promised of the definitions that the code is proved to equal. docs/PROMISES.md tells it in words, with what crates/outcomes says of the contracts themselves. Assumes nothing.
 use lib.Ieee.{Format}
-use Rattle.distances.specs.Kernels.{Kernels}
+use Rattle.laws.specs.Kernels.{Kernels}
 use Rattle.promises.specs.Twelve.{Twelve}
 use Rattle.promises.specs.Frozen.{Demand3}
 

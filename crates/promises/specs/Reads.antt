@@ -5,14 +5,14 @@ use mathlib.Core.List.{List, []}
 use lib.Dec.{eqb, ltb}
 use lib.Ieee.{Float, eq}
 use Rattle.domain.specs.Limits.{zero32}
-use Rattle.weights.specs.Weights.{_!_}
-use Rattle.reads.specs.Reads.{later, nonZero, prefixDay, cardDay, cardRating, cardLabel}
-use Rattle.tables.specs.Batch.{Table, Prefixes, Cards, lengthAt, at}
-use Rattle.parameters.specs.Params.{paramsDef}
+use Rattle.domain.specs.Weights.{_!_}
+use Rattle.checks.specs.Reads.{later, nonZero, prefixDay, cardDay, cardRating, cardLabel}
+use Rattle.checks.specs.Batch.{Table, Prefixes, Cards, lengthAt, at}
+use Rattle.forward.specs.Params.{paramsDef}
 use Rattle.forward.specs.Reads.{among, firstWeights, reviewReads}
 use Rattle.forward.specs.Step.{ratingNumber}
 use Rattle.backward.specs.Moves.{slotsOf}
-use Rattle.passes.specs.Path.{recordAt}
+use Rattle.columns.specs.Path.{recordAt}
 
 -- some i below n passes the test
 unfoldable pub some : (test : ℕ → Bool) (n : ℕ) → Bool

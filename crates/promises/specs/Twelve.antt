@@ -10,19 +10,19 @@ use lib.Ieee.{Float, fin, Format, binary32, minus, fits, neg, eq, ofBits, toBits
 use Rattle.domain.specs.Floats.{_-ᶠ_}
 use Rattle.domain.specs.Limits.{decimal, zero32, one, three, stabilityGood, difficultyGood, dayGood}
 use Rattle.domain.specs.Doubles.{zero64}
-use Rattle.fma.specs.Fma.{fmaDef}
-use Rattle.half_away.specs.HalfAway.{roundDef}
+use Rattle.soft.specs.Fma.{fmaDef}
+use Rattle.soft.specs.HalfAway.{roundDef}
 use Rattle.kernels.specs.Kernels.{expDef}
-use Rattle.weights.specs.Weights.{_!_, weightsRefusal, FSRS6_DEFAULT_PARAMETERS}
-use Rattle.parameters.specs.Params.{paramsDef}
-use Rattle.parameters.specs.declared.RuntimeParams.{RuntimeParams}
-use Rattle.branches.specs.declared.stability.State.{State}
-use Rattle.branches.specs.declared.stability.Branch.the-variants.{SameDay, Lapse}
+use Rattle.domain.specs.Weights.{_!_, weightsRefusal, FSRS6_DEFAULT_PARAMETERS}
+use Rattle.forward.specs.Params.{paramsDef}
+use Rattle.forward.specs.declared.parameters.RuntimeParams.{RuntimeParams}
+use Rattle.forward.specs.declared.stability.State.{State}
+use Rattle.forward.specs.declared.stability.Branch.the-variants.{SameDay, Lapse}
 use Rattle.forward.specs.Step.{stepDef}
 use Rattle.forward.specs.declared.step.Stepped.{Stepped}
-use Rattle.scores.specs.Scores.{MAX_PROB, scoreDef}
-use Rattle.reads.specs.Reads.{ratingGood, weightGood, labelGood, nonZero, prefixDay, cardDay, cardRating, check, prefixRow, cardScore, cardRow, targetDef}
-use Rattle.ends.specs.Ends.{targetLoss, targetGrad, targetSlots}
+use Rattle.columns.specs.Scores.{MAX_PROB, scoreDef}
+use Rattle.checks.specs.Reads.{ratingGood, weightGood, labelGood, nonZero, prefixDay, cardDay, cardRating, check, prefixRow, cardScore, cardRow, targetDef}
+use Rattle.columns.specs.Ends.{targetLoss, targetGrad, targetSlots}
 
 -- ---- what the cases share
 -- 'A zero of either sign is zero.'

@@ -1,4 +1,10 @@
--- What `soft` promises, from IEEE 754 and from Rust's own account of `as`, over the kit's exact fractions (lib.Ieee).
-pub mod Pack
+pub mod Cuts
+pub mod Fma
+pub mod FmaSteps
+pub mod HalfAway
 pub mod Narrow
-pub mod Steps
+pub mod Pack
+pub mod PackSteps
+pub mod Parts
+pub mod Units
+pub mod Value

@@ -3,8 +3,8 @@ ghost use mathlib.Core.Path.{_≡_};
 ghost use lib.Ieee.{binary32};
 ghost use Rattle.soft.specs.Narrow.{narrowDef};
 use crate::place::place_f32;
-use parts::units::is_finite;
-use parts::units::measure;
+use crate::units::is_finite;
+use crate::units::measure;
 
 pub fn narrow(x: f64) -> f32
     ensures { λ r. ⌜ r ≡ narrowDef binary32 x ⌝ }

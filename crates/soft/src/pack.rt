@@ -5,15 +5,15 @@ ghost use lib.Ieee.{binary32, binary64, up, down};
 ghost use lib.Dec.{T};
 ghost use lib.IntN.{negsuc};
 ghost use lib.Signed.{leZ};
-ghost use Rattle.wide.specs.Value.{valueOf};
+ghost use Rattle.soft.specs.Value.{valueOf};
 ghost use Rattle.soft.specs.Pack.{packDef, packWideDef};
-ghost use Rattle.soft.specs.Steps.{foldDef};
+ghost use Rattle.soft.specs.PackSteps.{foldDef};
 use crate::flags::bit;
 use crate::flags::either;
 use crate::place::place_f32;
 use crate::place::place_f64;
 use crate::squeeze::squeeze;
-use wide::Wide;
+use crate::wide::Wide;
 
 // A number of at most 63 digits, and a power of two to go with it.
 pub struct Scaled {

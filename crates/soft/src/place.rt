@@ -4,8 +4,8 @@ ghost use mathlib.Core.Path.{_≡_};
 ghost use Prim.Native.Nat.{_+_, _-_, _*_, _^_, _≤_, _<_, min};
 ghost use lib.Ieee.{round, binary32, binary64};
 ghost use lib.Ieee.Nearest.{closest};
-ghost use Rattle.rounding.proofs.Place.{placedBits};
-use shifts::digits64;
+ghost use Rattle.soft.specs.Cuts.{placedBits};
+use crate::shifts::digits64;
 
 // The smaller of the two.
 pub fn least(a: u64, b: u64) -> u64

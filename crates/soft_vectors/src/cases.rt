@@ -1,13 +1,13 @@
 // Each operation on a line's numbers, compared with the answer there.
-use parts::decode::Class;
-use parts::decode::Parts;
+use soft::decode::Class;
+use soft::decode::Parts;
 use vectors::patterns::f32_of;
 use vectors::patterns::f64_of;
 use vectors::patterns::pattern_bool;
 use vectors::patterns::pattern_f32;
 use vectors::patterns::pattern_f64;
 use vectors::patterns::signed;
-use wide::Wide;
+use soft::wide::Wide;
 
 // The first four are an operation's arguments, and the last two its answer, unless a function below
 // says otherwise.
@@ -32,22 +32,22 @@ pub fn case_of(words: &[u64; 6]) -> Case {
 }
 
 fn fma_f64(k: Case) -> bool {
-    let got = fma::fma_f64(f64_of(k.a), f64_of(k.b), f64_of(k.c));
+    let got = soft::fma::fma_f64(f64_of(k.a), f64_of(k.b), f64_of(k.c));
     pattern_f64(got) == k.r
 }
 
 fn fma_f32(k: Case) -> bool {
-    let got = fma::fma_f32(f32_of(k.a), f32_of(k.b), f32_of(k.c));
+    let got = soft::fma::fma_f32(f32_of(k.a), f32_of(k.b), f32_of(k.c));
     pattern_f32(got) == k.r
 }
 
 fn round_f64(k: Case) -> bool {
-    let got = half_away::round_f64(f64_of(k.a));
+    let got = soft::half_away::round_f64(f64_of(k.a));
     pattern_f64(got) == k.r
 }
 
 fn round_f32(k: Case) -> bool {
-    let got = half_away::round_f32(f32_of(k.a));
+    let got = soft::half_away::round_f32(f32_of(k.a));
     pattern_f32(got) == k.r
 }
 
@@ -121,23 +121,23 @@ fn soft_passes(row: usize, k: Case) -> bool {
         4 => narrow(k),
         5 => pack_f64(k),
         6 => pack_f32(k),
-        7 => same_parts(parts::decode::decode_f64(f64_of(k.a)), k),
-        8 => same_parts(parts::decode::decode_f32(f32_of(k.a)), k),
+        7 => same_parts(soft::decode::decode_f64(f64_of(k.a)), k),
+        8 => same_parts(soft::decode::decode_f32(f32_of(k.a)), k),
         _ => false,
     }
 }
 
 fn wide_passes(row: usize, k: Case) -> bool {
     match row {
-        9 => same_wide(wide::product(k.a, k.b), k),
-        10 => same_wide(shifts::shl(first(k), k.c), k),
-        11 => same_wide(shifts::shr(first(k), k.c), k),
-        12 => pattern_bool(shifts::lost(first(k), k.c)) == k.r,
-        13 => same_wide(wide::sum(first(k), second(k)), k),
-        14 => same_wide(wide::difference(first(k), second(k)), k),
-        15 => pattern_bool(wide::less(first(k), second(k))) == k.r,
-        16 => shifts::digits64(k.a) == k.r,
-        17 => shifts::digits(first(k)) == k.r,
+        9 => same_wide(soft::wide::product(k.a, k.b), k),
+        10 => same_wide(soft::shifts::shl(first(k), k.c), k),
+        11 => same_wide(soft::shifts::shr(first(k), k.c), k),
+        12 => pattern_bool(soft::shifts::lost(first(k), k.c)) == k.r,
+        13 => same_wide(soft::wide::sum(first(k), second(k)), k),
+        14 => same_wide(soft::wide::difference(first(k), second(k)), k),
+        15 => pattern_bool(soft::wide::less(first(k), second(k))) == k.r,
+        16 => soft::shifts::digits64(k.a) == k.r,
+        17 => soft::shifts::digits(first(k)) == k.r,
         _ => false,
     }
 }

@@ -3,8 +3,8 @@
 // reverse and all slots after it.
 use analytic_v6::step::TrainingReverse;
 use analytic_v6::step::TrainingStep;
-use branches::stability::Branch;
-use branches::stability::State;
+use forward::stability::Branch;
+use forward::stability::State;
 use forward::step::StepRecord;
 use vectors::patterns::pattern_bool;
 use vectors::patterns::pattern_f32;

@@ -5,7 +5,7 @@ use crate::answers::is_step;
 use analytic_v6::step::TrainingReverse;
 use analytic_v6::step::training_step;
 use analytic_v6::step::training_step_backward;
-use branches::stability::State;
+use forward::stability::State;
 use vectors::patterns::f32_of;
 use vectors::patterns::f64_of;
 

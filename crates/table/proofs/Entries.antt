@@ -9,7 +9,7 @@ use lib.Dec.{T, leb, ltb, leb→le, ltb→lt, lit≤}
 use lib.Ieee.Fits.{and-l, and-r}
 use lib.ListN.{getD}
 use borrow.Author.Tests.{le-ltb}
-use Rattle.exact.specs.Exact.{N, P, taylor, fact}
+use Rattle.table.specs.Exact.{N, P, taylor, fact}
 use Rattle.table.specs.Entry.{entry}
 use Rattle.table.proofs.Every.{every, at}
 

@@ -2,7 +2,7 @@
 use Prim.Native.Nat.{ℕ, _*_, _/_, _^_}
 use mathlib.Core.Bool.{cond}
 use lib.Dec.{ltb}
-use Rattle.exact.specs.Exact.{N, P}
+use Rattle.table.specs.Exact.{N, P}
 
 -- entry i is the whole part of 2 ^ 62 P(i N / 2 ^ 72), for i below 256; 2 ^ 63 stands from 256 on
 unfoldable pub entry : ℕ → ℕ

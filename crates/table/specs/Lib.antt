@@ -1,1 +1,3 @@
 pub mod Entry
+pub mod Exact
+pub mod Start

@@ -1,6 +1,6 @@
 use mathlib.Core.Path.{_∙_}
-use Rattle.ends.specs.Ends.{answer}
-use Rattle.headers.proofs.Headers.{accepted-file, refused-file, accepted-sections}
+use Rattle.columns.specs.Ends.{answer}
+use Rattle.batch.proofs.headers.Headers.{accepted-file, refused-file, accepted-sections}
 use Rattle.batch.proofs.Fits.{fits-in}
 use Rattle.batch.specs.File.{fileLoss, fileSlots}
 use borrow.Author.Needs.{needs}

@@ -7,11 +7,11 @@ use borrow.Author.Tests.{eq-eqb, eqb-true, ne-eqb}
 use lib.Dec.{T, eqb, ltb}
 use lib.Ieee.{Float}
 use lib.ListN.{length, set}
-use Rattle.weights.specs.Weights.{_!_, inBox, weightsRefusal}
-use Rattle.tables.specs.Batch.{lengthAt}
+use Rattle.domain.specs.Weights.{_!_, inBox, weightsRefusal}
+use Rattle.checks.specs.Batch.{lengthAt}
 use Rattle.forward.proofs.Agreement.{by-cases}
-use Rattle.ends.specs.Ends.{answer}
-use Rattle.ends.specs.declared.Loss.{Loss}
+use Rattle.columns.specs.Ends.{answer}
+use Rattle.columns.specs.declared.ends.Loss.{Loss}
 use Rattle.promises.specs.Reads.{Slice, stepsRead, callReads, callMoves}
 use Rattle.promises.specs.Calls.{Call, Kind}
 use Rattle.promises.specs.Frozen.{SameInputs, SameWeights, Alike, weightRead, mayMove, with-weight}

@@ -9,9 +9,9 @@ use lib.Dec.{eqb}
 use lib.Ieee.{Float, nan}
 use lib.ListN.{length, length-set, set}
 use lib.Seq.{getD-set-same, getD-set-other}
-use Rattle.weights.specs.Weights.{_!_, inBox, all, boxed, weightsRefusal}
-use Rattle.weights.proofs.Accepted.{accepted-length, accepted-box}
-use Rattle.cards.proofs.Entry.{halves}
+use Rattle.domain.specs.Weights.{_!_, inBox, all, boxed, weightsRefusal}
+use Rattle.domain.proofs.weights.Accepted.{accepted-length, accepted-box}
+use Rattle.analytic_v6.proofs.cards.Entry.{halves}
 
 module _ (w : List Float) (k : ℕ) (a : Float) (good : inBox k a ≡ true) where
   at-k : (n : ℕ) → n < length w → inBox n (w ! n) ≡ true → (b : Bool) → b ≡ eqb n k → inBox n (set w k a ! n) ≡ true

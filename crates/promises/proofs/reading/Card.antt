@@ -7,25 +7,25 @@ use borrow.Author.Tests.{eq-eqb, eqb-true, eqb-false, ltb-true, lt-ltb}
 use lib.Dec.{eqb, leb, ltb}
 use lib.Ieee.{Float}
 use lib.ListN.{length}
-use Rattle.weights.specs.Weights.{_!_, weightsRefusal}
-use Rattle.reads.specs.Reads.{later, prefixDay, cardDay, cardRating, cardLabel}
-use Rattle.reads.proofs.Unread.{and-same, CardRow, card-day-read, card-label-read}
-use Rattle.tables.specs.Batch.{Cards, lengthAt, at}
-use Rattle.tables.specs.Columns.{total, through}
-use Rattle.tables.specs.Tables.{cell}
-use Rattle.sizes.specs.Sizes.{longestDef}
-use Rattle.faults.specs.Faults.{firstFault, cardColumn, cardFault}
-use Rattle.faults.specs.declared.place.Fault.{Fault}
+use Rattle.domain.specs.Weights.{_!_, weightsRefusal}
+use Rattle.checks.specs.Reads.{later, prefixDay, cardDay, cardRating, cardLabel}
+use Rattle.checks.proofs.reads.Unread.{and-same, CardRow, card-day-read, card-label-read}
+use Rattle.checks.specs.Batch.{Cards, lengthAt, at}
+use Rattle.checks.specs.Columns.{total, through}
+use Rattle.checks.specs.Tables.{cell}
+use Rattle.checks.specs.Sizes.{longestDef}
+use Rattle.checks.specs.Faults.{firstFault, cardColumn, cardFault}
+use Rattle.checks.specs.declared.faults.place.Fault.{Fault}
 use Rattle.checks.specs.Refusals.{lossRefusal, gradRefusal, longestOf, cardsSized, cardLossRefusal, cardGradRefusal}
 use Rattle.checks.proofs.Orders.{grad-accepted}
-use Rattle.parameters.specs.Params.{paramsDef}
-use Rattle.records.specs.Records.{roomDef}
+use Rattle.forward.specs.Params.{paramsDef}
+use Rattle.columns.specs.Records.{roomDef}
 use Rattle.forward.proofs.Agreement.{by-cases}
-use Rattle.cards.specs.Cards.{cardLoss, cardSlots, lossOf, cardsLossAndGrad, cardsSlots, cardsLoss}
-use Rattle.agreement.proofs.Card.{last-inside, card-record-same, inside, rating-read, day-read, CardCells, card-fault-same, card-loss-same, card-slots-same, card-keeps}
-use Rattle.agreement.proofs.Faults.{faults-same}
-use Rattle.agreement.proofs.Columns.{total-same, through-same, through-keeps, longest-same}
-use Rattle.cards.proofs.Entry.{halves}
+use Rattle.analytic_v6.specs.Cards.{cardLoss, cardSlots, lossOf, cardsLossAndGrad, cardsSlots, cardsLoss}
+use Rattle.laws.proofs.Agreement.Card.{last-inside, card-record-same, inside, rating-read, day-read, CardCells, card-fault-same, card-loss-same, card-slots-same, card-keeps}
+use Rattle.laws.proofs.Agreement.Faults.{faults-same}
+use Rattle.laws.proofs.Agreement.Columns.{total-same, through-same, through-keeps, longest-same}
+use Rattle.analytic_v6.proofs.cards.Entry.{halves}
 use Rattle.promises.specs.Reads.{Slice, days, ratings, targets, labels, weights, inside as in-table, cardCell, cardReads, callMoves}
 use Rattle.promises.specs.Calls.{Call, Kind, cardSlice, cards}
 use Rattle.promises.specs.Frozen.{SameInputs, SameWeights, Alike, mayMove, Frozen}

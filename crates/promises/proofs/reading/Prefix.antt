@@ -7,25 +7,25 @@ use borrow.Author.Tests.{eq-eqb, eqb-true, ltb-true, lt-ltb}
 use lib.Dec.{eqb, leb, ltb}
 use lib.Ieee.{Float}
 use lib.ListN.{length}
-use Rattle.weights.specs.Weights.{_!_, weightsRefusal}
-use Rattle.reads.specs.Reads.{nonZero, prefixDay}
-use Rattle.reads.proofs.Unread.{and-same}
-use Rattle.tables.specs.Batch.{Prefixes, lengthAt, at}
-use Rattle.tables.specs.Columns.{total, through}
-use Rattle.tables.specs.Tables.{cell}
-use Rattle.sizes.specs.Sizes.{longestDef}
-use Rattle.faults.specs.Faults.{firstFault, prefixColumn, prefixFault}
-use Rattle.faults.specs.declared.place.Fault.{Fault}
+use Rattle.domain.specs.Weights.{_!_, weightsRefusal}
+use Rattle.checks.specs.Reads.{nonZero, prefixDay}
+use Rattle.checks.proofs.reads.Unread.{and-same}
+use Rattle.checks.specs.Batch.{Prefixes, lengthAt, at}
+use Rattle.checks.specs.Columns.{total, through}
+use Rattle.checks.specs.Tables.{cell}
+use Rattle.checks.specs.Sizes.{longestDef}
+use Rattle.checks.specs.Faults.{firstFault, prefixColumn, prefixFault}
+use Rattle.checks.specs.declared.faults.place.Fault.{Fault}
 use Rattle.checks.specs.Refusals.{lossRefusal, gradRefusal, longestOf, prefixesSized, prefixLossRefusal, prefixGradRefusal}
 use Rattle.checks.proofs.Orders.{grad-accepted}
-use Rattle.parameters.specs.Params.{paramsDef}
-use Rattle.records.specs.Records.{roomDef}
+use Rattle.forward.specs.Params.{paramsDef}
+use Rattle.columns.specs.Records.{roomDef}
 use Rattle.forward.proofs.Agreement.{by-cases}
-use Rattle.prefixes.specs.Prefixes.{prefixLoss, prefixSlots, lossOf, batchLossAndGrad, batchSlots, batchLoss}
-use Rattle.agreement.proofs.Faults.{faults-same}
-use Rattle.agreement.proofs.Columns.{total-same, through-same, through-keeps, longest-same}
-use Rattle.agreement.proofs.Prefix.{PrefixCells, prefix-record-same, prefix-fault-same, prefix-loss-same, prefix-slots-same, prefix-keeps}
-use Rattle.cards.proofs.Entry.{halves}
+use Rattle.analytic_v6.specs.Prefixes.{prefixLoss, prefixSlots, lossOf, batchLossAndGrad, batchSlots, batchLoss}
+use Rattle.laws.proofs.Agreement.Faults.{faults-same}
+use Rattle.laws.proofs.Agreement.Columns.{total-same, through-same, through-keeps, longest-same}
+use Rattle.laws.proofs.Agreement.Prefix.{PrefixCells, prefix-record-same, prefix-fault-same, prefix-loss-same, prefix-slots-same, prefix-keeps}
+use Rattle.analytic_v6.proofs.cards.Entry.{halves}
 use Rattle.promises.specs.Reads.{Slice, days, ratings, targets, labels, weights, inside, prefixCell, prefixReads, callReads, callMoves}
 use Rattle.promises.specs.Calls.{Call, Kind, prefixSlice, prefixes}
 use Rattle.promises.specs.Frozen.{SameInputs, SameWeights, Alike, mayMove, Frozen}

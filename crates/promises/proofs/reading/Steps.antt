@@ -8,19 +8,19 @@ use borrow.Author.Tests.{ne-eqb}
 use lib.Dec.{eqb}
 use lib.Ieee.{Float, eq, ofBits}
 use Rattle.domain.specs.Limits.{zero32}
-use Rattle.weights.specs.Weights.{_!_}
-use Rattle.reads.specs.Reads.{later, nonZero, prefixDay}
-use Rattle.tables.specs.Batch.{Table, at}
-use Rattle.parameters.specs.Params.{paramsDef}
-use Rattle.parameters.specs.declared.RuntimeParams.{RuntimeParams}
+use Rattle.domain.specs.Weights.{_!_}
+use Rattle.checks.specs.Reads.{later, nonZero, prefixDay}
+use Rattle.checks.specs.Batch.{Table, at}
+use Rattle.forward.specs.Params.{paramsDef}
+use Rattle.forward.specs.declared.parameters.RuntimeParams.{RuntimeParams}
 use Rattle.forward.specs.Reads.{among, firstWeights, reviewReads, stepReads, Agree}
 use Rattle.forward.specs.Step.{noState, isFirst, ratingNumber}
 use Rattle.forward.specs.declared.step.StepRecord.{StepRecord}
 use Rattle.forward.proofs.Agreement.{by-cases}
 use Rattle.backward.specs.Moves.{slotsOf}
 use Rattle.backward.proofs.Keeps.{or-left, or-right}
-use Rattle.passes.specs.Path.{stateAt, recordAt}
-use Rattle.agreement.proofs.Walk.{still-unread}
+use Rattle.columns.specs.Path.{stateAt, recordAt}
+use Rattle.laws.proofs.Agreement.Walk.{still-unread}
 use Rattle.promises.specs.Reads.{some, rowReads, stepsRead, callReads, columnMoves, callMoves}
 use Rattle.promises.proofs.reading.Some.{none-of, none-some, some-of, some-same}
 

@@ -12,11 +12,12 @@ use lib.Pow.{pow-pos, pow-add, pow-mono}
 use lib.Ieee.{Format, binary32, binary64, low, up, down, round}
 use lib.Ieee.Fits.{down-pos}
 use lib.Ieee.Scale.{round-same}
-use Rattle.rounding.proofs.Basics.{pos-of, not-eqb}
-use Rattle.rounding.proofs.Sticky.{Cut, cut-rounds, keeps}
-use Rattle.rounding.proofs.Tiny.{tiny}
+use Rattle.soft.proofs.Rounding.Basics.{pos-of, not-eqb}
+use Rattle.soft.proofs.Rounding.Sticky.{cut-rounds, keeps}
+use Rattle.soft.specs.Cuts.{Cut}
+use Rattle.soft.proofs.Rounding.Tiny.{tiny}
 use Rattle.soft.specs.Pack.{packDef, packWideDef}
-use Rattle.soft.specs.Steps.{foldDef, pickScaled, squeezeDef}
+use Rattle.soft.specs.PackSteps.{foldDef, pickScaled, squeezeDef}
 use Rattle.soft.proofs.squeeze.Digits.{squeezed}
 use Rattle.soft.proofs.pack.Exponent.{Counts}
 

@@ -7,8 +7,9 @@ use native.Mathlib.Omega.{arith}
 use lib.Dec.{T, eqb}
 use lib.Ieee.{Format, prec, low, hid, ones, top, size, round, ofBits, nanBits}
 use lib.Ieee.Nearest.{closest}
-use Rattle.rounding.proofs.Place.{place, normalised, placedBits}
-use Rattle.rounding.proofs.Pattern.{pattern-not-nan}
+use Rattle.soft.proofs.Rounding.Place.{place}
+use Rattle.soft.specs.Cuts.{normalised, placedBits}
+use Rattle.soft.proofs.Rounding.Pattern.{pattern-not-nan}
 
 pub placed-le : (g t h o v x : ℕ) → placedBits g t h o v x ≤ o * h
 placed-le g t h o v x = go (eqb v 0) ((x + size v - t) * h + closest (normalised v) (2 ^ (g + (x + size v - t) - (x + size v))))

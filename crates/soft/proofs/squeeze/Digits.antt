@@ -9,10 +9,11 @@ use lib.Pow.{pow-pos, pow-add, pow-mono}
 use lib.Ieee.{Format, size, round}
 use lib.Ieee.Digits.{size-lt, size-le, size-reaches}
 use lib.Ieee.Fits.{kept-lt}
-use Rattle.rounding.proofs.Basics.{not-eqb}
-use Rattle.rounding.proofs.Sticky.{Cut, cut-rounds, cut-again, keeps}
+use Rattle.soft.proofs.Rounding.Basics.{not-eqb}
+use Rattle.soft.proofs.Rounding.Sticky.{cut-rounds, cut-again, keeps}
+use Rattle.soft.specs.Cuts.{Cut}
 use Rattle.soft.specs.declared.pack.Scaled.{Scaled}
-use Rattle.soft.specs.Steps.{squeezeDef}
+use Rattle.soft.specs.PackSteps.{squeezeDef}
 
 long : (w : ℕ) → 62 ≤ size w → 2 ^ 60 ≤ w / 2 ^ (size w - 62)
 long w h =

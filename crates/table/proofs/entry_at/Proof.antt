@@ -1,5 +1,5 @@
 -- `table::entry_at` meets its contract: each arm's constant is computed again from `entry`. `tools/table.py` writes this file. Assumes nothing.
-use Rattle.exact.specs.Exact.{P, taylor, fact}
+use Rattle.table.specs.Exact.{P, taylor, fact}
 use Rattle.table.specs.Entry.{entry}
 use Rattle.table.proofs.Arms.{arm, last}
 use Rattle.table.proofs.entry_at.Statement.{statement}

@@ -1,4 +1,4 @@
-use Rattle.curves.specs.Curve.{baseDef}
+use Rattle.forward.specs.Curve.{baseDef}
 use Rattle.backward.specs.Step.{recordCurve}
 use borrow.Author.Needs.{needs}
 use Rattle.backward.proofs.step.record_curve.Statement.{statement}

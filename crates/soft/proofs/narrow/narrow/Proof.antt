@@ -13,9 +13,9 @@ use lib.Ieee.Fits.{down-pos}
 use lib.Ieee.Scale.{finite, round-same}
 use borrow.Author.Needs.{needs}
 use Rattle.soft.specs.Narrow.{narrowDef}
-use Rattle.parts.specs.Units.{unitsDef}
-use Rattle.parts.specs.declared.units.Units.{Units}
-use Rattle.parts.proofs.units.Value.{measured, digits-lt, places-lt, holds, fails}
+use Rattle.soft.specs.Units.{unitsDef}
+use Rattle.soft.specs.declared.units.Units.{Units}
+use Rattle.soft.proofs.units.Value.{measured, digits-lt, places-lt, holds, fails}
 use Rattle.soft.proofs.narrow.narrow.Statement.{statement}
 use Rattle.soft.proofs.narrow.narrow.Tie as tie
 

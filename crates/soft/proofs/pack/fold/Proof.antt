@@ -5,7 +5,7 @@ use mathlib.Core.Bool.{Bool, true, false, cond}
 use native.Mathlib.Omega.{arith}
 use borrow.Author.Needs.{needs}
 use borrow.Author.Tests.{lt-ltb, le-ltb}
-use Rattle.soft.specs.Steps.{foldDef}
+use Rattle.soft.specs.PackSteps.{foldDef}
 use Rattle.soft.proofs.pack.fold.Statement.{statement}
 use Rattle.soft.proofs.pack.fold.Tie as tie
 

@@ -8,8 +8,8 @@ use lib.Signed.{ltZ}
 use lib.Ieee.{binary64, round}
 use mir.Facts.{toZ-ofZ}
 use borrow.Author.Needs.{needs}
-use Rattle.wide.specs.Value.{valueOf}
-use Rattle.wide.proofs.Laws.{below}
+use Rattle.soft.specs.Value.{valueOf}
+use Rattle.soft.proofs.wide.Laws.{below}
 use Rattle.soft.specs.declared.pack.Scaled.{Scaled}
 use Rattle.soft.proofs.squeeze.Digits.{digits-fit, squeezed-near}
 use Rattle.soft.proofs.pack.Exponent.{Counts, in-reach, word, wide-fits, wide-near}

@@ -5,7 +5,7 @@ use native.Mathlib.Omega.{arith}
 use native.Mathlib.Nat.{mod-lt, le-of-lt}
 use lib.Pow.{pow-pos}
 use borrow.Author.Needs.{needs}
-use Rattle.rounding.proofs.Basics.{half-word}
+use Rattle.soft.proofs.Rounding.Basics.{half-word}
 use Rattle.soft.proofs.place.Shift.{half-le, far, near}
 use Rattle.soft.proofs.place.nearest.Statement.{statement}
 use Rattle.soft.proofs.place.nearest.Tie as tie

@@ -6,7 +6,8 @@ use native.Mathlib.Nat.{mod-eq-of-lt}
 use lib.Ieee.{size}
 use lib.Ieee.Nearest.{closest}
 use borrow.Author.Needs.{needs}
-use Rattle.rounding.proofs.Place.{digits63, normalised, normalised-lt, patternOf}
+use Rattle.soft.proofs.Rounding.Place.{digits63, normalised-lt}
+use Rattle.soft.specs.Cuts.{normalised, patternOf}
 use Rattle.soft.proofs.place.Shift.{saturates, sum-fits, closest-le, placed-pos, placed-zero}
 use Rattle.soft.proofs.place.pattern.Statement.{statement}
 use Rattle.soft.proofs.place.pattern.Tie as tie

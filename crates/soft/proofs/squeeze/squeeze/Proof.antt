@@ -8,11 +8,11 @@ use lib.Dec.{eqb, lit≤}
 use lib.Ieee.{size}
 use lib.Ieee.Fits.{kept-lt}
 use borrow.Author.Needs.{needs}
-use Rattle.wide.specs.declared.Wide.{Wide}
-use Rattle.wide.specs.Value.{valueOf}
-use Rattle.wide.proofs.Laws.{low-is}
+use Rattle.soft.specs.declared.wide.Wide.{Wide}
+use Rattle.soft.specs.Value.{valueOf}
+use Rattle.soft.proofs.wide.Laws.{low-is}
 use Rattle.soft.specs.declared.pack.Scaled.{Scaled}
-use Rattle.soft.specs.Steps.{squeezeDef}
+use Rattle.soft.specs.PackSteps.{squeezeDef}
 use Rattle.soft.proofs.squeeze.squeeze.Statement.{statement}
 use Rattle.soft.proofs.squeeze.squeeze.Tie as tie
 

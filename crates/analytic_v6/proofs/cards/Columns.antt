@@ -1,0 +1,96 @@
+-- A card's walk over what it stored is the walk over its records and scores. Assumes nothing.
+use Prim.Native.Nat.{ℕ, _+_, _-_, _≤_, _<_}
+use mathlib.Core.List.{List}
+use mathlib.Core.Path.{_≡_, sym, ap, _∙_, subst}
+use native.Mathlib.Nat.{le-trans, ne-of-lt}
+use native.Mathlib.Omega.{arith}
+use borrow.Author.Tests.{eq-eqb, ne-eqb}
+use lib.Ieee.{Float}
+use lib.ListN.{getD, length, set}
+use lib.Seq.{getD-set-other}
+use Rattle.domain.specs.Doubles.{zero64}
+use Rattle.forward.specs.declared.parameters.RuntimeParams.{RuntimeParams}
+use Rattle.checks.specs.Batch.{Cards, lengthAt, at}
+use Rattle.columns.specs.Records.{roomDef, loadDef}
+use Rattle.columns.specs.Back.{startGrad, backDef}
+use Rattle.columns.specs.Ends.{lastLoss, lastGrad, lastSlots}
+use Rattle.columns.specs.Path.{recordAt, storedDef, scoreAt, runAt, gradsDef}
+use Rattle.columns.specs.declared.scored.Run.{Run}
+use Rattle.columns.proofs.Kept.{path-read, grads-read, back-same}
+use Rattle.analytic_v6.specs.Cards.{cardLoss, cardSlots, cardRecords, cardGrads}
+
+module _ (p : RuntimeParams) (x : Cards) (column n : ℕ) (e : n ≡ lengthAt (x .table) column) where
+  -- a card with no row
+  module _ (z : n ≡ 0) where
+    none : lengthAt (x .table) column ≡ 0
+    none = sym e ∙ z
+
+    pub empty-loss : zero64 ≡ cardLoss p x column
+    unfolding cardLoss
+    empty-loss = rw (eq-eqb _ 0 none)
+
+    pub empty-slots : (gw : List Float) → gw ≡ cardSlots p x column gw
+    unfolding cardSlots
+    empty-slots gw = rw (eq-eqb _ 0 none)
+
+    pub empty-records : (records : List Float) → records ≡ cardRecords p x column records
+    unfolding cardRecords storedDef
+    empty-records records = rw none
+
+    pub empty-grads : (step-grads : List Float) → step-grads ≡ cardGrads p x column step-grads
+    unfolding cardGrads
+    empty-grads step-grads = rw (eq-eqb _ 0 none)
+
+  module _ (h : n ≡ 0 → ⊥) where
+    some : lengthAt (x .table) column ≡ 0 → ⊥
+    some z = h (e ∙ z)
+
+    pub records-of : (records : List Float) → storedDef p (x .table .days) (x .table .ratings) (x .table .columns) column (n - 1) records ≡ cardRecords p x column records
+    unfolding cardRecords
+    records-of records = rw e
+
+    pub grads-of :
+        (step-grads : List Float) →
+        set (gradsDef p (x .table .days) (x .table .ratings) (x .table .columns) column (x .labels) (x .weights) (n - 1) step-grads) (n - 1) zero64 ≡ cardGrads p x column step-grads
+    unfolding cardGrads
+    grads-of step-grads = rw (ne-eqb _ 0 some, e)
+
+    module _ (run : Run) (day label weight : Float)
+        (er : run ≡ runAt p (x .table .days) (x .table .ratings) (x .table .columns) column (x .labels) (x .weights) (n - 1))
+        (ed : day ≡ at (x .table) (x .table .days) (n - 1) column) (el : label ≡ at (x .table) (x .labels) (n - 1) column)
+        (ew : weight ≡ at (x .table) (x .weights) (n - 1) column) where
+      pub loss-of : lastLoss p (n - 1) (run .state .s) day label weight (run .loss) ≡ cardLoss p x column
+      unfolding cardLoss runAt
+      loss-of = rw (ne-eqb _ 0 some, er, ed, el, ew, e)
+
+      walk-of :
+          (gw : List Float) →
+          backDef p (recordAt p (x .table .days) (x .table .ratings) (x .table .columns) column)
+          (λ row. scoreAt p (x .table .days) (x .table .ratings) (x .table .columns) column (x .labels) (x .weights) row .«g_r»)
+          (n - 1)
+          (startGrad (lastGrad p (n - 1) (run .state .s) day label weight))
+          (lastSlots p (n - 1) (run .state .s) day label weight gw) ≡
+          cardSlots p x column gw
+      unfolding cardSlots runAt
+      walk-of gw = rw (ne-eqb _ 0 some, er, ed, el, ew, e)
+
+      pub slots-of :
+          (records step-grads gw : List Float) → lengthAt (x .table) column ≤ roomDef (length records) → lengthAt (x .table) column ≤ length step-grads →
+          backDef p (λ i. loadDef i (storedDef p (x .table .days) (x .table .ratings) (x .table .columns) column (n - 1) records))
+          (λ i. getD (set (gradsDef p (x .table .days) (x .table .ratings) (x .table .columns) column (x .labels) (x .weights) (n - 1) step-grads) (n - 1) zero64) i zero64)
+          (n - 1)
+          (startGrad (lastGrad p (n - 1) (run .state .s) day label weight))
+          (lastSlots p (n - 1) (run .state .s) day label weight gw) ≡
+          cardSlots p x column gw
+      slots-of records step-grads gw l m =
+          back-same p _ (recordAt p (x .table .days) (x .table .ratings) (x .table .columns) column) _
+          (λ row. scoreAt p (x .table .days) (x .table .ratings) (x .table .columns) column (x .labels) (x .weights) row .«g_r»)
+          (n - 1)
+          (λ i k. path-read p _ _ _ column (n - 1) i records (le-trans less l) k)
+          (λ i k. getD-set-other (gradsDef p (x .table .days) (x .table .ratings) (x .table .columns) column (x .labels) (x .weights) (n - 1) step-grads) (n - 1) i zero64 zero64 (ne-of-lt k) ∙ grads-read p _ _ _ column _ _ (n - 1) i step-grads (le-trans less m) k)
+          _
+          _ ∙
+          walk-of gw
+        where
+          less : n - 1 ≤ lengthAt (x .table) column
+          less = omega (arith, e)

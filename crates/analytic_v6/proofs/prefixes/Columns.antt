@@ -1,0 +1,45 @@
+-- A column's walk over what it stored is the walk over its records. Assumes nothing.
+use Prim.Native.Nat.{ℕ, zero, suc, _+_, _≤_, _<_}
+use mathlib.Core.List.{List, [], _∷_}
+use mathlib.Core.Path.{_≡_, refl, sym, ap, _∙_, subst}
+use lib.Ieee.{Float}
+use lib.ListN.{getD, length}
+use Rattle.domain.specs.Doubles.{zero64}
+use Rattle.domain.specs.Weights.{_!_}
+use Rattle.forward.specs.declared.parameters.RuntimeParams.{RuntimeParams}
+use Rattle.forward.specs.declared.stability.State.{State}
+use Rattle.checks.specs.Batch.{Prefixes, lengthAt}
+use Rattle.columns.specs.Records.{roomDef, loadDef}
+use Rattle.columns.specs.Back.{startGrad, backDef}
+use Rattle.columns.specs.Ends.{targetLoss, targetGrad, targetSlots}
+use Rattle.columns.specs.Path.{stateAt, recordAt, storedDef}
+use Rattle.columns.specs.declared.ends.Ending.{Ending}
+use Rattle.columns.proofs.Kept.{path-length, path-read, back-same}
+use Rattle.analytic_v6.specs.Prefixes.{prefixLoss, prefixSlots, prefixRecords}
+
+-- no step of a prefix is scored
+pub unscored : (i : ℕ) → getD (zero64 ∷ []) i zero64 ≡ zero64
+unscored zero = refl
+unscored (suc i) = refl
+
+module _ (p : RuntimeParams) (x : Prefixes) (column n : ℕ) (e : n ≡ lengthAt (x .table) column) where
+  module _ (q : State) (day label weight : Float) (eq : q ≡ stateAt p (x .table .days) (x .table .ratings) (x .table .columns) column n)
+      (ed : day ≡ x .days ! column) (el : label ≡ x .labels ! column) (ew : weight ≡ x .weights ! column) where
+    pub loss-of : targetLoss p (q .s) day label weight ≡ prefixLoss p x column
+    unfolding prefixLoss
+    loss-of = rw (ed, el, ew, eq, e)
+
+    pub slots-of :
+        (records gw u : List Float) → lengthAt (x .table) column ≤ roomDef (length records) → ((i : ℕ) → getD u i zero64 ≡ zero64) →
+        backDef p (λ i. loadDef i (storedDef p (x .table .days) (x .table .ratings) (x .table .columns) column n records)) (λ i. getD u i zero64) n
+        (startGrad (targetGrad p (q .s) day label weight)) (targetSlots p (q .s) day label weight gw) ≡
+        prefixSlots p x column gw
+    unfolding prefixSlots
+    slots-of records gw u l z =
+        back-same p _ (recordAt p (x .table .days) (x .table .ratings) (x .table .columns) column) _ (λ row. zero64) n
+        (λ i h. path-read p _ _ _ column n i records (rw e l) h) (λ i h. z i) _ _ ∙
+        (rw (ed, el, ew, eq, e))
+
+  pub records-of : (records : List Float) → storedDef p (x .table .days) (x .table .ratings) (x .table .columns) column n records ≡ prefixRecords p x column records
+  unfolding prefixRecords
+  records-of records = rw e

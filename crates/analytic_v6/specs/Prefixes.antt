@@ -1,0 +1,58 @@
+-- batch_loss_and_grad and batch_loss of analytic_v6.rs, with document 01's refusals in its order: 1, 2, 5, 3, 4, then the first fault. Assumes nothing.
+use Prim.Native.Nat.{ℕ}
+use mathlib.Core.Bool.{cond}
+use mathlib.Core.List.{List}
+use lib.Dec.{eqb}
+use lib.Ieee.{Float}
+use lib.ListN.{length}
+use Rattle.domain.specs.Weights.{_!_}
+use Rattle.domain.specs.Doubles.{zero64}
+use Rattle.forward.specs.Params.{paramsDef}
+use Rattle.forward.specs.declared.parameters.RuntimeParams.{RuntimeParams}
+use Rattle.checks.specs.Batch.{Prefixes, lengthAt}
+use Rattle.checks.specs.Columns.{total, through}
+use Rattle.checks.specs.Refusals.{prefixLossRefusal, prefixGradRefusal}
+use Rattle.columns.specs.Records.{roomDef}
+use Rattle.columns.specs.Back.{startGrad, backDef}
+use Rattle.columns.specs.Ends.{targetLoss, targetGrad, targetSlots, answer}
+use Rattle.columns.specs.Path.{stateAt, recordAt, storedDef}
+use Rattle.columns.specs.declared.ends.Loss.{Loss}
+
+-- prefix_loss_and_grad, for one column
+module _ (p : RuntimeParams) (x : Prefixes) (column : ℕ) where
+  -- the stability that its target is scored at
+  abbrev pub targetStability : Float
+  targetStability = stateAt p (x .table .days) (x .table .ratings) (x .table .columns) column (lengthAt (x .table) column) .s
+
+  unfoldable pub prefixLoss : Float
+  prefixLoss = targetLoss p targetStability (x .days ! column) (x .labels ! column) (x .weights ! column)
+
+  -- first the target's curve, then its steps, the last first; no step of a prefix is scored
+  unfoldable pub prefixSlots : (gw : List Float) → List Float
+  prefixSlots gw =
+      backDef p (recordAt p (x .table .days) (x .table .ratings) (x .table .columns) column) (λ row. zero64) (lengthAt (x .table) column)
+      (startGrad (targetGrad p targetStability (x .days ! column) (x .labels ! column) (x .weights ! column)))
+      (targetSlots p targetStability (x .days ! column) (x .labels ! column) (x .weights ! column) gw)
+
+  unfoldable pub prefixRecords : (records : List Float) → List Float
+  prefixRecords records = storedDef p (x .table .days) (x .table .ratings) (x .table .columns) column (lengthAt (x .table) column) records
+
+-- 'column losses add in column order in double'
+abbrev pub lossOf : (w : List Float) (x : Prefixes) → Float
+lossOf w x = total (prefixLoss (paramsDef w) x) (x .table .columns)
+
+-- a lent slice stands for its length where only that counts: ten singles make a record
+unfoldable pub batchLossAndGrad : (w : List Float) (x : Prefixes) (gw records : ℕ) → Loss
+batchLossAndGrad w x gw records = answer (prefixGradRefusal w x gw (roomDef records)) (lossOf w x)
+
+-- the slots are added to, and left as they were where the call is refused
+unfoldable pub batchSlots : (w : List Float) (x : Prefixes) (gw : List Float) (records : ℕ) → List Float
+batchSlots w x gw records =
+    cond (eqb (prefixGradRefusal w x (length gw) (roomDef records)) 0) (through (prefixSlots (paramsDef w) x) (x .table .columns) gw) gw
+
+unfoldable pub batchRecords : (w : List Float) (x : Prefixes) (gw : ℕ) (records : List Float) → List Float
+batchRecords w x gw records =
+    cond (eqb (prefixGradRefusal w x gw (roomDef (length records))) 0) (through (prefixRecords (paramsDef w) x) (x .table .columns) records) records
+
+unfoldable pub batchLoss : (w : List Float) (x : Prefixes) → Loss
+batchLoss w x = answer (prefixLossRefusal w x) (lossOf w x)

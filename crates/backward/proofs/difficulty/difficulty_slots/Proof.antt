@@ -1,0 +1,29 @@
+use Rattle.backward.specs.Difficulty.{difficultySlots}
+use borrow.Author.Needs.{needs}
+use Rattle.backward.proofs.difficulty.difficulty_slots.Statement.{statement}
+use Rattle.backward.proofs.difficulty.difficulty_slots.Tie as tie
+
+add-requires : tie.Need-add-requires
+add-requires c κs = search needs
+
+add-requires-2 : tie.Need-add-requires-2
+add-requires-2 c κs = search needs
+
+add-requires-3 : tie.Need-add-requires-3
+add-requires-3 c κs = search needs
+
+add-requires-4 : tie.Need-add-requires-4
+add-requires-4 c κs = search needs
+
+same-length : tie.Need-same-length
+same-length c = search needs
+
+returns : tie.Need-returns
+unfolding difficultySlots
+returns c =
+    rw (c .before .before .add4 .ensures, c .before .before .before .before .before .before .add3 .ensures, c .before .before .before .before .before .before .before .before .before .before .add2 .ensures, c .before .before .before .before .before .before .before .before .before .before .before .before .before .before .add .ensures)
+
+pub difficulty-slots-spec : {M : Type 1} → statement M
+difficulty-slots-spec =
+    tie.close
+    (tie.spec add-requires add-requires-2 add-requires-3 add-requires-4 same-length returns)

@@ -1,0 +1,45 @@
+use Rattle.backward.specs.Failure.{floorGrads, floorSlots}
+use borrow.Author.Needs.{needs}
+use Rattle.backward.proofs.failure.backward_floor.Statement.{statement}
+use Rattle.backward.proofs.failure.backward_floor.Tie as tie
+
+f32-to-f64-with-nan-requires : tie.Need-f32-to-f64-with-nan-requires
+f32-to-f64-with-nan-requires c κs = search needs
+
+f32-to-f64-with-nan-requires-2 : tie.Need-f32-to-f64-with-nan-requires-2
+f32-to-f64-with-nan-requires-2 c κs = search needs
+
+f32-to-f64-with-nan-requires-3 : tie.Need-f32-to-f64-with-nan-requires-3
+f32-to-f64-with-nan-requires-3 c κs = search needs
+
+f32-to-f64-with-nan-requires-4 : tie.Need-f32-to-f64-with-nan-requires-4
+f32-to-f64-with-nan-requires-4 c κs = search needs
+
+add-requires : tie.Need-add-requires
+add-requires c κs = search needs
+
+add-requires-2 : tie.Need-add-requires-2
+add-requires-2 c κs = search needs
+
+same-length : tie.Need-same-length
+same-length c = search needs
+
+returns : tie.Need-returns
+unfolding floorGrads floorSlots
+returns c = (
+  rw (c .before .before .before .before .before .before .before .before .before .before .f32-to-f64-with-nan2 .ensures, c .before .before .before .before .before .before .before .before .before .before .before .f32-to-f64-with-nan .ensures),
+  rw (c .before .before .add2 .ensures, c .before .before .before .before .before .before .add .ensures, c .before .before .before .before .before .before .before .before .before .before .f32-to-f64-with-nan2 .ensures, c .before .before .before .before .before .before .before .before .before .f32-to-f64-with-nan3 .ensures, c .before .before .before .before .before .before .before .before .f32-to-f64-with-nan4 .ensures),
+)
+
+pub backward-floor-spec : {M : Type 1} → statement M
+backward-floor-spec =
+    tie.close
+    (tie.spec
+    f32-to-f64-with-nan-requires
+    f32-to-f64-with-nan-requires-2
+    f32-to-f64-with-nan-requires-3
+    f32-to-f64-with-nan-requires-4
+    add-requires
+    add-requires-2
+    same-length
+    returns)

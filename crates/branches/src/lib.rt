@@ -1,3 +1,0 @@
-// analytic_v6.rs, forward: the three ways in which a review moves the stability. Each function takes the weights that it
-// reads, and no more.
-pub mod stability;

@@ -1,0 +1,80 @@
+use Prim.Native.Nat.{_≤_, _-_}
+use mathlib.Core.Path.{_≡_, _∙_}
+use native.Mathlib.Omega.{arith}
+use borrow.Author.Needs.{needs}
+use Rattle.checks.specs.Faults.{noFault}
+use Rattle.checks.proofs.faults.Rows.{cardUpTo, card-none, card-more, card-hit, card-end}
+use Rattle.checks.proofs.faults.card.card_rows.Statement.{statement}
+use Rattle.checks.proofs.faults.card.card_rows.Tie as tie
+
+abbrev Inv-loop : tie.InvT-loop
+Inv-loop t-hist r-hist batch labels weights column n i₀ i = (i ≤ n) × (cardUpTo t-hist r-hist batch column labels weights n i ≡ noFault)
+
+abbrev μ-loop : tie.MeasureT-loop
+μ-loop t-hist r-hist batch labels weights column n i₀ i = n - i
+
+loop-holds : tie.Need-loop-holds Inv-loop μ-loop
+loop-holds c = (search needs, card-none _ _ _ _ _ _ _)
+
+cell-of-requires : tie.Need-cell-of-requires Inv-loop μ-loop
+cell-of-requires c κs = search needs
+
+read-requires : tie.Need-read-requires Inv-loop μ-loop
+read-requires c κs = search needs
+
+read-requires-2 : tie.Need-read-requires-2 Inv-loop μ-loop
+read-requires-2 c κs = search needs
+
+read-requires-3 : tie.Need-read-requires-3 Inv-loop μ-loop
+read-requires-3 c κs = search needs
+
+read-requires-4 : tie.Need-read-requires-4 Inv-loop μ-loop
+read-requires-4 c κs = search needs
+
+card-row-requires : tie.Need-card-row-requires Inv-loop μ-loop
+card-row-requires c κs = search needs
+
+returns : tie.Need-returns Inv-loop μ-loop
+returns c =
+    let a = c .before .before .before .before .before .before .before .before in
+    card-hit _ _ _ _ _ _ _ (a .loop .i) (c .before .card-row .result) (c .before .before .before .before .before .before .before .loop-test .taken) (a .loop .inv .1) (rw (c .before .card-row .ensures, c .before .before .read4 .ensures, c .before .before .before .read3 .ensures, c .before .before .before .before .read2 .ensures, c .before .before .before .before .before .read .ensures, c .before .before .before .before .before .before .cell-of .ensures)) (c .if1 .taken)
+
+add-i : tie.Need-add-i Inv-loop μ-loop
+add-i c = search needs
+
+loop-less : tie.Need-loop-less Inv-loop μ-loop
+loop-less c = search needs
+
+loop-again : tie.Need-loop-again Inv-loop μ-loop
+loop-again c =
+    let a = c .before .before .before .before .before .before .before .before in
+    (search needs, card-more _ _ _ _ _ _ _ (a .loop .i) (c .before .card-row .result) (a .loop .inv .1) (rw (c .before .card-row .ensures, c .before .before .read4 .ensures, c .before .before .before .read3 .ensures, c .before .before .before .before .read2 .ensures, c .before .before .before .before .before .read .ensures, c .before .before .before .before .before .before .cell-of .ensures)) (c .if1 .left))
+
+no-fault-requires : tie.Need-no-fault-requires Inv-loop μ-loop
+no-fault-requires c κs = search needs
+
+returns-2 : tie.Need-returns-2 Inv-loop μ-loop
+returns-2 c =
+    let l = c .before .before .loop in
+    let e : l .i ≡ c .before .before .before .before .before .before .before .args .n = omega (arith, l .inv .0, c .before .loop-test .left) in
+    c .no-fault .ensures ∙ card-end _ _ _ _ _ _ _ _ e (l .inv .1)
+
+pub card-rows-spec : {M : Type 1} → statement M
+card-rows-spec =
+    tie.close
+    (tie.spec
+    Inv-loop
+    μ-loop
+    loop-holds
+    cell-of-requires
+    read-requires
+    read-requires-2
+    read-requires-3
+    read-requires-4
+    card-row-requires
+    returns
+    add-i
+    loop-less
+    loop-again
+    no-fault-requires
+    returns-2)

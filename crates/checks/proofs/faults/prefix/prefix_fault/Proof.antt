@@ -1,0 +1,61 @@
+use Prim.Native.Nat.{_≤_, _-_}
+use mathlib.Core.Path.{_≡_, _∙_}
+use native.Mathlib.Omega.{arith}
+use borrow.Author.Needs.{needs}
+use Rattle.checks.specs.Batch.{prefixesOf}
+use Rattle.checks.specs.Faults.{noFault, firstFault, prefixColumn}
+use Rattle.checks.proofs.faults.Rows.{prefixes-none, prefixes-more, prefixes-hit, prefixes-end}
+use Rattle.checks.proofs.faults.prefix.prefix_fault.Statement.{statement}
+use Rattle.checks.proofs.faults.prefix.prefix_fault.Tie as tie
+
+abbrev Inv-loop : tie.InvT-loop
+Inv-loop t-hist r-hist seq-len batch seq-lens delta-ts labels weights c₀ c =
+    (c ≤ batch) × (firstFault (prefixColumn (prefixesOf t-hist r-hist seq-len batch seq-lens delta-ts labels weights)) c ≡ noFault)
+
+abbrev μ-loop : tie.MeasureT-loop
+μ-loop t-hist r-hist seq-len batch seq-lens delta-ts labels weights c₀ c = batch - c
+
+loop-holds : tie.Need-loop-holds Inv-loop μ-loop
+loop-holds c = (search needs, prefixes-none _)
+
+prefix-column-requires : tie.Need-prefix-column-requires Inv-loop μ-loop
+prefix-column-requires c κs = search needs
+
+returns : tie.Need-returns Inv-loop μ-loop
+returns c =
+    let a = c .before .before .before .before .loop in
+    prefixes-hit _ (a .c) _ (c .before .before .before .loop-test .taken) (a .inv .1) (c .before .before .prefix-column .ensures) (c .if1 .taken)
+
+add-c : tie.Need-add-c Inv-loop μ-loop
+add-c c = search needs
+
+loop-less : tie.Need-loop-less Inv-loop μ-loop
+loop-less c = search needs
+
+loop-again : tie.Need-loop-again Inv-loop μ-loop
+loop-again c =
+    let a = c .before .before .before .before .loop in (search needs, prefixes-more _ (a .c) _ (a .inv .1) (c .before .before .prefix-column .ensures) (c .if1 .left))
+
+no-fault-requires : tie.Need-no-fault-requires Inv-loop μ-loop
+no-fault-requires c κs = search needs
+
+returns-2 : tie.Need-returns-2 Inv-loop μ-loop
+returns-2 c =
+    let l = c .before .before .loop in
+    let e : l .c ≡ c .before .before .before .before .before .before .before .before .before .args .batch = omega (arith, l .inv .0, c .before .loop-test .left) in
+    c .no-fault .ensures ∙ prefixes-end _ _ e (l .inv .1)
+
+pub prefix-fault-spec : {M : Type 1} → statement M
+prefix-fault-spec =
+    tie.close
+    (tie.spec
+    Inv-loop
+    μ-loop
+    loop-holds
+    prefix-column-requires
+    returns
+    add-c
+    loop-less
+    loop-again
+    no-fault-requires
+    returns-2)

@@ -1,0 +1,72 @@
+use Prim.Native.Nat.{_≤_, _-_}
+use mathlib.Core.Path.{_≡_, _∙_}
+use native.Mathlib.Omega.{arith}
+use borrow.Author.Needs.{needs}
+use Rattle.checks.specs.Faults.{noFault, prefixRows}
+use Rattle.checks.proofs.faults.Rows.{prefix-none, prefix-more, prefix-hit, prefix-end}
+use Rattle.checks.proofs.faults.prefix.prefix_rows.Statement.{statement}
+use Rattle.checks.proofs.faults.prefix.prefix_rows.Tie as tie
+
+abbrev Inv-loop : tie.InvT-loop
+Inv-loop t-hist r-hist batch column n i₀ i = (i ≤ n) × (prefixRows t-hist r-hist batch column i ≡ noFault)
+
+abbrev μ-loop : tie.MeasureT-loop
+μ-loop t-hist r-hist batch column n i₀ i = n - i
+
+loop-holds : tie.Need-loop-holds Inv-loop μ-loop
+loop-holds c = (search needs, prefix-none _ _ _ _)
+
+cell-of-requires : tie.Need-cell-of-requires Inv-loop μ-loop
+cell-of-requires c κs = search needs
+
+read-requires : tie.Need-read-requires Inv-loop μ-loop
+read-requires c κs = search needs
+
+read-requires-2 : tie.Need-read-requires-2 Inv-loop μ-loop
+read-requires-2 c κs = search needs
+
+prefix-row-requires : tie.Need-prefix-row-requires Inv-loop μ-loop
+prefix-row-requires c κs = search needs
+
+returns : tie.Need-returns Inv-loop μ-loop
+returns c =
+    let a = c .before .before .before .before .before .before in
+    prefix-hit _ _ _ _ (a .loop .i) _ (c .before .prefix-row .result) (c .before .before .before .before .before .loop-test .taken) (a .loop .inv .1) (rw (c .before .prefix-row .ensures, c .before .before .read2 .ensures, c .before .before .before .read .ensures, c .before .before .before .before .cell-of .ensures)) (c .if1 .taken)
+
+add-i : tie.Need-add-i Inv-loop μ-loop
+add-i c = search needs
+
+loop-less : tie.Need-loop-less Inv-loop μ-loop
+loop-less c = search needs
+
+loop-again : tie.Need-loop-again Inv-loop μ-loop
+loop-again c =
+    let a = c .before .before .before .before .before .before in
+    (search needs, prefix-more _ _ _ _ (a .loop .i) (c .before .prefix-row .result) (a .loop .inv .1) (rw (c .before .prefix-row .ensures, c .before .before .read2 .ensures, c .before .before .before .read .ensures, c .before .before .before .before .cell-of .ensures)) (c .if1 .left))
+
+no-fault-requires : tie.Need-no-fault-requires Inv-loop μ-loop
+no-fault-requires c κs = search needs
+
+returns-2 : tie.Need-returns-2 Inv-loop μ-loop
+returns-2 c =
+    let l = c .before .before .loop in
+    let e : l .i ≡ c .before .before .before .before .before .args .n = omega (arith, l .inv .0, c .before .loop-test .left) in
+    c .no-fault .ensures ∙ prefix-end _ _ _ _ _ _ e (l .inv .1)
+
+pub prefix-rows-spec : {M : Type 1} → statement M
+prefix-rows-spec =
+    tie.close
+    (tie.spec
+    Inv-loop
+    μ-loop
+    loop-holds
+    cell-of-requires
+    read-requires
+    read-requires-2
+    prefix-row-requires
+    returns
+    add-i
+    loop-less
+    loop-again
+    no-fault-requires
+    returns-2)

@@ -1,0 +1,34 @@
+use Rattle.checks.specs.Faults.{targetFault}
+use borrow.Author.Needs.{needs}
+use Rattle.checks.proofs.faults.prefix.prefix_target.Statement.{statement}
+use Rattle.checks.proofs.faults.prefix.prefix_target.Tie as tie
+
+read-requires : tie.Need-read-requires
+read-requires c κs = search needs
+
+read-requires-2 : tie.Need-read-requires-2
+read-requires-2 c κs = search needs
+
+read-requires-3 : tie.Need-read-requires-3
+read-requires-3 c κs = search needs
+
+target-row-requires : tie.Need-target-row-requires
+target-row-requires c κs = search needs
+
+fault-at-requires : tie.Need-fault-at-requires
+fault-at-requires c κs = search needs
+
+returns : tie.Need-returns
+unfolding targetFault
+returns c = rw (c .fault-at .ensures, c .before .target-row .ensures, c .before .before .read3 .ensures, c .before .before .before .read2 .ensures, c .before .before .before .before .read .ensures)
+
+pub prefix-target-spec : {M : Type 1} → statement M
+prefix-target-spec =
+    tie.close
+    (tie.spec
+    read-requires
+    read-requires-2
+    read-requires-3
+    target-row-requires
+    fault-at-requires
+    returns)

@@ -1,0 +1,38 @@
+use Rattle.checks.specs.Reads.{cardDay}
+use borrow.Author.Needs.{needs}
+use Rattle.checks.proofs.reads.card_day.Statement.{statement}
+use Rattle.checks.proofs.reads.card_day.Tie as tie
+
+is-later-requires : tie.Need-is-later-requires
+is-later-requires c κs = search needs
+
+is-last-requires : tie.Need-is-last-requires
+is-last-requires c κs = search needs
+
+is-nonzero-requires : tie.Need-is-nonzero-requires
+is-nonzero-requires c κs = search needs
+
+is-nonzero-requires-2 : tie.Need-is-nonzero-requires-2
+is-nonzero-requires-2 c κs = search needs
+
+pick-requires : tie.Need-pick-requires
+pick-requires c κs = search needs
+
+both-requires : tie.Need-both-requires
+both-requires c κs = search needs
+
+returns : tie.Need-returns
+unfolding cardDay
+returns c = rw (c .both .ensures, c .before .pick .ensures, c .before .before .is-nonzero2 .ensures, c .before .before .before .is-nonzero .ensures, c .before .before .before .before .is-last .ensures, c .before .before .before .before .before .is-later .ensures)
+
+pub card-day-spec : {M : Type 1} → statement M
+card-day-spec =
+    tie.close
+    (tie.spec
+    is-later-requires
+    is-last-requires
+    is-nonzero-requires
+    is-nonzero-requires-2
+    pick-requires
+    both-requires
+    returns)

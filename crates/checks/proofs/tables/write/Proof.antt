@@ -1,0 +1,23 @@
+use mathlib.Core.Path.{sym}
+use lib.Seq.{set-out}
+use borrow.Author.Needs.{needs}
+use Rattle.checks.proofs.tables.write.Statement.{statement}
+use Rattle.checks.proofs.tables.write.Tie as tie
+
+mul-xs : tie.Need-mul-xs
+mul-xs c = search needs
+
+slice-write-xs : tie.Need-slice-write-xs
+slice-write-xs c = search needs
+
+same-length : tie.Need-same-length
+same-length c = search needs
+
+returns : tie.Need-returns
+returns c = search needs
+
+returns-2 : tie.Need-returns-2
+returns-2 c = sym (set-out _ _ _ (c .if1 .left))
+
+pub write-spec : {M : Type 1} → statement M
+write-spec = tie.close (tie.spec mul-xs slice-write-xs same-length returns returns-2)

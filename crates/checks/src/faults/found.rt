@@ -1,0 +1,27 @@
+// A fault that was found, or none.
+ghost use mathlib.Core.Path.{_≡_};
+ghost use Rattle.checks.specs.Faults.{noFault, faultAt};
+use crate::faults::place::Fault;
+
+pub fn no_fault() -> Fault
+    ensures { λ r. ⌜ r ≡ noFault ⌝ }
+{
+    Fault {
+        refusal: 0,
+        column: 0,
+        row: 0,
+    }
+}
+
+pub fn fault_at(refusal: u32, column: u32, row: u32) -> Fault
+    ensures { λ r. ⌜ r ≡ faultAt refusal column row ⌝ }
+{
+    if refusal == 0 {
+        return no_fault();
+    }
+    Fault {
+        refusal,
+        column,
+        row,
+    }
+}

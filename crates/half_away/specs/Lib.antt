@@ -1,2 +1,0 @@
--- What `half_away` promises, from Rust's own account of `round`.
-pub mod HalfAway

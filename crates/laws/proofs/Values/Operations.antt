@@ -1,0 +1,92 @@
+-- How large a product, a sum and a quotient are, and when a product is not negative. Assumes nothing.
+use mathlib.Core.Path.{_≡_, sym, ap, _∙_, subst}
+use mathlib.Core.Bool.{Bool, true, false, Bool·beq, cond}
+use Prim.Native.Nat.{ℕ, zero, suc, _+_, _-_, _*_, _^_, _≤_, _<_}
+use native.Mathlib.Nat.{le-trans, le-of-eq, zero-mul, mul-assoc, mul-comm, mul-mul-mul-comm, mul-pos, mul-le-mul, mul-le-mul-right, not-suc-le-zero}
+use native.Mathlib.Omega.{arith}
+use lib.Dec.{T, ltb, eqb·suc-zero}
+use lib.Pow.{pow-add}
+use lib.Ieee.{Float, nan, inf, fin, binary32, unlike, up, down, neg, add, sub, mul, div}
+use lib.Ieee.Fits.{down-pos}
+use lib.Ieee.Positive.{num, den}
+use lib.Ieee.Scale.{finite}
+use Rattle.soft.proofs.Rounding.Sum.{sum-is}
+use Rattle.soft.specs.Cuts.{sumSign, sumSize}
+use Rattle.domain.specs.Floats.{_+ᶠ_, _-ᶠ_, _*ᶠ_, _/ᶠ_}
+use Rattle.laws.proofs.Values.Sizes.{Size, plus, plus-round, neg-size, round-size}
+
+pub mul-size : (j k : ℕ) (x y : Float) → j + k < 128 → Size j x → Size k y → Size (j + k) (x *ᶠ y)
+unfolding mul
+mul-size j k nan y l g h = absurd g
+mul-size j k (inf s) y l g h = absurd g
+mul-size j k (fin s m e) nan l g h = absurd h
+mul-size j k (fin s m e) (inf t) l g h = absurd h
+mul-size j k (fin s m e) (fin t n d) l g h =
+    round-size (unlike s t) (m * up e * (n * up d)) (down e * down d) (j + k) (mul-pos (down-pos e) (down-pos d)) l
+    (le-trans (mul-le-mul g h) (le-of-eq (mul-mul-mul-comm (2 ^ j) (down e) (2 ^ k) (down d) ∙ ap (λ (x : ℕ). x * (down e * down d)) (sym (pow-add 2 j k)))))
+
+pub plus-mul : (x y : Float) → T (finite x) → T (finite y) → T (plus x) → T (plus y) → T (plus (x *ᶠ y))
+unfolding mul
+plus-mul nan y a b g h = absurd a
+plus-mul (inf s) y a b g h = absurd a
+plus-mul (fin s m e) nan a b g h = absurd b
+plus-mul (fin s m e) (inf t) a b g h = absurd b
+plus-mul (fin true m e) (fin t n d) a b g h = absurd g
+plus-mul (fin false m e) (fin true n d) a b g h = absurd h
+plus-mul (fin false m e) (fin false n d) a b g h = plus-round binary32 (m * up e * (n * up d)) (down e * down d)
+
+sum-most : (s : Bool) (a : ℕ) (t : Bool) (b : ℕ) → sumSize s a t b ≤ a + b
+unfolding sumSize
+sum-most s a t b = go (Bool·beq s t) (ltb a b)
+  where
+    go : (p q : Bool) → cond p (a + b) (cond q (b - a) (a - b)) ≤ a + b
+    go true q = omega arith
+    go false true = omega arith
+    go false false = omega arith
+
+double : (p a b c z : ℕ) → z ≤ a + b → a ≤ p * c → b ≤ p * c → z ≤ p * 2 * c
+double p a b c z h i j = omega arith
+
+pub add-size : (k : ℕ) (x y : Float) → k + 1 < 128 → Size k x → Size k y → Size (k + 1) (x +ᶠ y)
+unfolding add
+add-size k nan y l g h = absurd g
+add-size k (inf s) y l g h = absurd g
+add-size k (fin s m e) nan l g h = absurd h
+add-size k (fin s m e) (inf t) l g h = absurd h
+add-size k (fin s m e) (fin t n d) l g h =
+    let a = m * up e * down d in
+    let b = n * up d * down e in
+    let c = down e * down d in
+    subst (Size (k + 1)) (sym (sum-is binary32 s a t b c))
+    (round-size (sumSign s a t b) (sumSize s a t b) c (k + 1) (mul-pos (down-pos e) (down-pos d)) l
+    (le-trans
+    (double (2 ^ k) a b c (sumSize s a t b) (sum-most s a t b) (le-trans (mul-le-mul-right (down d) g) (le-of-eq (mul-assoc (2 ^ k) (down e) (down d))))
+    (le-trans (mul-le-mul-right (down e) h) (le-of-eq (mul-assoc (2 ^ k) (down d) (down e) ∙ ap (λ (x : ℕ). 2 ^ k * x) (mul-comm (down d) (down e))))))
+    (le-of-eq (ap (λ (x : ℕ). x * c) (sym (pow-add 2 k 1))))))
+
+pub sub-size : (k : ℕ) (x y : Float) → k + 1 < 128 → Size k x → Size k y → Size (k + 1) (x -ᶠ y)
+unfolding sub
+sub-size k x y l g h = add-size k x (neg y) l g (neg-size k y h)
+
+-- y is 2 ^ -j or more
+abbrev pub Least : ℕ → Float → Type 0
+Least j y = den y ≤ num y * 2 ^ j
+
+pub div-size : (k j : ℕ) (x y : Float) → k + j < 128 → Size k x → T (finite y) → Least j y → Size (k + j) (x /ᶠ y)
+unfolding div
+div-size k j nan y l g a h = absurd g
+div-size k j (inf s) y l g a h = absurd g
+div-size k j (fin s m e) nan l g a h = absurd a
+div-size k j (fin s m e) (inf t) l g a h = absurd a
+div-size k j (fin s m e) (fin t zero d) l g a h = absurd (not-suc-le-zero (le-trans (down-pos d) (le-trans h (le-of-eq (ap (λ (x : ℕ). x * 2 ^ j) (zero-mul (up d)) ∙ zero-mul (2 ^ j))))))
+div-size k j (fin s m e) (fin t (suc n) d) l g a h =
+    rw (eqb·suc-zero n)
+    (round-size (unlike s t) (m * up e * down d) (suc n * up d * down e) (k + j) (above (suc n * up d) (down d) (2 ^ j) (down e) (down-pos d) (down-pos e) h) l
+    (le-trans (mul-le-mul g h) (le-of-eq (turn (2 ^ k) (down e) (suc n * up d) (2 ^ j) ∙ ap (λ (x : ℕ). x * (suc n * up d * down e)) (sym (pow-add 2 k j))))))
+  where
+    turn : (p e n q : ℕ) → p * e * (n * q) ≡ p * q * (n * e)
+    turn p e n q = mul-mul-mul-comm p e n q ∙ ap (λ (x : ℕ). p * n * x) (mul-comm e q) ∙ mul-mul-mul-comm p n q e
+
+    above : (n d p e : ℕ) → 0 < d → 0 < e → d ≤ n * p → 0 < n * e
+    above zero d p e z w h = absurd (not-suc-le-zero (le-trans z (le-trans h (le-of-eq (zero-mul p)))))
+    above (suc n) d p e z w h = mul-pos {m = suc n} (omega arith) w

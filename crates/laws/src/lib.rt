@@ -1,0 +1,1 @@
+// Laws alone, no code.

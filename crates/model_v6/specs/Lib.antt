@@ -1,0 +1,7 @@
+pub mod Answers
+pub mod Curve
+pub mod Difficulty
+pub mod Filling
+pub mod NextState
+pub mod Stability
+pub mod State

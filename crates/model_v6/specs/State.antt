@@ -1,0 +1,30 @@
+-- next_state_scalar of model_v6.rs. Assumes nothing.
+use Prim.Native.Nat.{ℕ}
+use mathlib.Core.Bool.{cond}
+use mathlib.Core.List.{List}
+use lib.Dec.{eqb, ltb}
+use lib.Ieee.{Float, eq}
+use Rattle.domain.specs.Floats.{clampDef}
+use Rattle.domain.specs.Limits.{zero32, S_MIN, S_MAX, D_MIN, D_MAX}
+use Rattle.model_v6.specs.Curve.{daysDef, curveDef}
+use Rattle.model_v6.specs.Stability.{successDef, failureDef, shortTermDef}
+use Rattle.model_v6.specs.Difficulty.{nextDifficultyDef}
+use Rattle.model_v6.specs.declared.formulas.state.MemoryState.{MemoryState}
+
+-- rating.clamp(1, 4)
+unfoldable pub clampRating : ℕ → ℕ
+clampRating n = cond (ltb n 1) 1 (cond (ltb 4 n) 4 n)
+
+-- the stability after a review of the clamped s and d: same day, a lapse, or a success
+unfoldable pub afterDef : (w : List Float) (s d delta-t : Float) (rating : ℕ) (r : Float) → Float
+afterDef w s d delta-t rating r =
+    cond (eq delta-t zero32) (shortTermDef w s rating) (cond (eqb rating 1) (failureDef w s r d) (successDef w s r d rating))
+
+unfoldable pub nextStateDef : (w : List Float) (state : MemoryState) (delta-t : Float) (rating : ℕ) → MemoryState
+nextStateDef w state delta-t rating =
+    let rating = clampRating rating in
+    let delta-t = daysDef delta-t in
+    let s = clampDef (state .stability) S_MIN S_MAX in
+    let d = clampDef (state .difficulty) D_MIN D_MAX in
+    let r = curveDef w delta-t s in
+    record { stability = afterDef w s d delta-t rating r; difficulty = nextDifficultyDef w d rating }

@@ -1,0 +1,24 @@
+-- `parts::units::pattern` meets its contract: only a NaN differs from itself. Assumes nothing.
+use mathlib.Core.Path.{_≡_, refl, sym, ap, _∙_}
+use lib.Ieee.{nan, binary64, toBits}
+use lib.Ieee.Compare.{differs-from-itself}
+use Rattle.soft.proofs.decode.Kind.{no-nan}
+use Rattle.soft.proofs.units.Value.{holds}
+use Rattle.soft.proofs.units.pattern.Statement.{statement}
+use Rattle.soft.proofs.units.pattern.Tie as tie
+
+nan-bits : 0x7ff8_0000_0000_0000 ≡ toBits binary64 nan
+unfolding toBits
+nan-bits = refl
+
+returns : tie.Need-returns
+returns c = nan-bits ∙ ap (toBits binary64) (sym (differs-from-itself (c .before .args .x) (holds (c .if1 .taken))))
+
+float-to-bits-result : tie.Need-float-to-bits-result
+float-to-bits-result c = no-nan (c .before .args .x) (c .if1 .left)
+
+returns-2 : tie.Need-returns-2
+returns-2 c = refl
+
+pub pattern-spec : {M : Type 1} → statement M
+pattern-spec = tie.close (tie.spec returns float-to-bits-result returns-2)

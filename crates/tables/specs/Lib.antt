@@ -1,3 +1,0 @@
-pub mod Batch
-pub mod Columns
-pub mod Tables
