@@ -3,6 +3,7 @@
 SECONDS what the whole of it took, and WHY, if it grew much, says why."""
 import datetime
 import os
+import platform
 import re
 import sys
 
@@ -20,7 +21,7 @@ def main():
             elif re.match(r"\d+ passed, \d+ failed", line):
                 last = line.strip()
     whole = int(sys.argv[2])
-    out = ["# Check times", "", f"Seconds on 2 processors (aarch64), from nothing, {datetime.date.today()}. `tools/check_times.py` writes this page from the", "gate's output. Three checks run at a time (.ci/run), so that each takes longer than it would alone, and a crate's edits about a third", "of their sum.", ""]
+    out = ["# Check times", "", f"Seconds on 2 processors ({platform.machine()}), from nothing, {datetime.date.today()}. `tools/check_times.py` writes this page from the", "gate's output. Three checks run at a time (.ci/run), so that each takes longer than it would alone, and a crate's edits about a third", "of their sum.", ""]
     out += ["| crate | proved in | must-fail edits | seconds of one | a third of their sum |", "| --- | --- | --- | --- | --- |"]
     for crate, seconds in proved.items():
         e = edits.get(crate, [])

@@ -1,5 +1,5 @@
 #!/usr/bin/env python3
-"""Writes where a logarithm's search of the table starts: crates/starts/src/lib.rt and the proof of its `match`, an arm
+"""Writes where a logarithm's search of the table starts: crates/table/src/starts.rt and the proof of its `match`, an arm
 for each argument, as tools/table.py does for the table itself.
 
 The arms are the values of a cubic, which would be three products one after the other; the check computes each again.
@@ -18,7 +18,7 @@ SOURCE = """// Where the search of the table starts, by the 9 digits below a num
 // cubic. `tools/starts.py` writes this file. A `match` of constants compiles to one load.
 ghost use mathlib.Core.Path.{_≡_};
 ghost use Prim.Native.Nat.{_%%_, _<_};
-ghost use Rattle.starts.specs.Start.{startDef};
+ghost use Rattle.table.specs.Start.{startDef};
 
 fn start_in(k: u64) -> u16
     requires { ⌜ k < 512 ⌝ }
@@ -38,9 +38,9 @@ pub fn start_at(k: u64) -> u16
 """
 
 PROOF = """-- `starts::start_in` meets its contract: each arm's constant is computed again from the cubic. `tools/starts.py` writes this file. Assumes nothing.
-use Rattle.starts.proofs.Arms.{arm, last}
-use Rattle.starts.proofs.start_in.Statement.{statement}
-use Rattle.starts.proofs.start_in.Tie as tie
+use Rattle.table.proofs.starts.Arms.{arm, last}
+use Rattle.table.proofs.starts.start_in.Statement.{statement}
+use Rattle.table.proofs.starts.start_in.Tie as tie
 
 %s
 pub start-in-spec : {M : Type 1} → statement M
@@ -56,7 +56,7 @@ def name(k):
 
 
 def main():
-    root = os.path.join(os.path.dirname(os.path.abspath(__file__)), "..", "crates", "starts")
+    root = os.path.join(os.path.dirname(os.path.abspath(__file__)), "..", "crates", "table")
     last = STARTS - 1
     arms = "".join(f"        {k} => {start(k)},\n" for k in range(last))
     needs = "".join(
@@ -66,7 +66,7 @@ def main():
     end = name(STARTS)
     needs += f"{end} : tie.Need-{end}\n{end} c = last (c .before .args .k) (c .before .pre) (c .match .rest)\n"
     listed = "\n".join("    " + name(k) for k in range(1, STARTS + 1))
-    for path, text in (("src/lib.rt", SOURCE % (arms, start(last))), ("proofs/start_in/Proof.antt", PROOF % (needs, listed))):
+    for path, text in (("src/starts.rt", SOURCE % (arms, start(last))), ("proofs/starts/start_in/Proof.antt", PROOF % (needs, listed))):
         path = os.path.join(root, path)
         os.makedirs(os.path.dirname(path), exist_ok=True)
         with open(path, "w", encoding="utf-8") as out:

@@ -25,6 +25,8 @@ def literal(n):
 
 SOURCE = """// The fractional powers of two: 2^62 * 2^(i / 256), cut to a whole number; 2^63 from 256 on. `tools/table.py` writes this
 // file. A `match` of constants compiles to one load, where a constant array is built anew at each call.
+pub mod starts;
+
 ghost use mathlib.Core.Path.{_≡_};
 ghost use Rattle.table.specs.Entry.{entry};
 
@@ -38,7 +40,7 @@ pub fn entry_at(i: u64) -> u64
 """
 
 PROOF = """-- `table::entry_at` meets its contract: each arm's constant is computed again from `entry`. `tools/table.py` writes this file. Assumes nothing.
-use Rattle.exact.specs.Exact.{P, taylor, fact}
+use Rattle.table.specs.Exact.{P, taylor, fact}
 use Rattle.table.specs.Entry.{entry}
 use Rattle.table.proofs.Arms.{arm, last}
 use Rattle.table.proofs.entry_at.Statement.{statement}

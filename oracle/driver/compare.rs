@@ -186,7 +186,7 @@ pub fn run(case: &Case, tally: &mut Tally) -> (Option<u32>, Option<String>) {
     }
 }
 
-/// A digest as in tools/loss_vectors.py: of the slots, the records and the step gradients after the call.
+/// A digest as in tools/vectors/losses.py: of the slots, the records and the step gradients after the call.
 pub fn digest(outcome: &Outcome) -> u64 {
     let lent = outcome.parts.iter().filter(|p| p.name != "loss");
     lent.flat_map(|p| p.bits.iter().map(|&b| plain_bits(p.is_double, b))).fold(0xcbf29ce484222325, |h, v| {

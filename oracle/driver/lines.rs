@@ -1,4 +1,4 @@
-// Calls as text, to be stored or run again. The lines w, g and 0 to 3 are those of tools/loss_vectors.py, which says what
+// Calls as text, to be stored or run again. The lines w, g and 0 to 3 are those of tools/vectors/losses.py, which says what
 // they hold. Beside them, over the weights and the slots of the last lines w and g, and without an answer:
 //
 //     s    a formula: its number from 0, three singles, a rating

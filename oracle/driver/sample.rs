@@ -1,5 +1,5 @@
 // A stored sample of losses for a program that has no Rust at hand: calls within the limits of its lines
-// (tools/loss_vectors.py), with the answers that are to be.
+// (tools/vectors/losses.py), with the answers that are to be.
 use crate::cases::{Case, Loss, Outcome, WEIGHTS};
 use crate::compare;
 use crate::generate::{self, Sizes};

@@ -1,6 +1,6 @@
-/* Runs lists of vectors through the C functions: lists SOFT MODEL STEP LOSS, the files crates/{soft,..}_vectors/stdin. Their
- * answers come from a second reading of the rules; tools/{soft,..}_vectors.py say what a line holds. Lines about what is no
- * C function are left out. After a refused call what was lent must have the bits that it had. */
+/* Runs lists of vectors through the C functions: lists ARITHMETIC STUDY STEP LOSSES, files of crates/vectors/data. Their answers
+ * come from a second reading of the rules; the scripts in tools/vectors say what a line holds. Lines about what is no C function
+ * are left out. After a refused call what was lent must have the bits that it had. */
 #include "../../include/fsrs6.h"
 #include "check.h"
 #include <stdlib.h>
@@ -11,7 +11,7 @@ static const char *list;
 static unsigned long line_number;
 static uint64_t words[WORDS];
 
-/* What the lines `w` and `g` set for the lines after them; SOFT and MODEL take nothing from a `g`. */
+/* What the lines `w` and `g` set for the lines after them. */
 static float w[SET];
 static double g[SET];
 static size_t w_len, g_len;
@@ -81,10 +81,10 @@ static int take_set(char letter) {
     return letter == 'w' || letter == 'g';
 }
 
-/* ---- crates/soft_vectors */
+/* ---- arithmetic */
 
-static void soft_line(char letter) {
-    const uint64_t *a = words, want = words[4];
+static void arithmetic_line(char letter) {
+    const uint64_t *a = words, want = words[3];
     switch (letter) {
     case 'F':
         expect_bits("fma_f64", double_bits(fsrs_fma_f64(double_of(a[0]), double_of(a[1]), double_of(a[2]))), want);
@@ -101,7 +101,7 @@ static void soft_line(char letter) {
     }
 }
 
-/* ---- crates/model_vectors */
+/* ---- study */
 
 static uint32_t formula(char letter, float *answer) {
     const uint64_t *a = words;
@@ -128,7 +128,7 @@ static uint32_t formula(char letter, float *answer) {
     }
 }
 
-static void model_line(char letter) {
+static void study_line(char letter) {
     if (letter == 'F') {
         if (expect_refusal(fsrs_check_and_fill_parameters(w, w_len, lent.answers), words[0])) {
             expect_singles("weight", lent.answers, words + 1, FSRS_WEIGHTS);
@@ -140,7 +140,7 @@ static void model_line(char letter) {
     }
 }
 
-/* ---- crates/step_vectors */
+/* ---- step */
 
 /* The list tells the branch and whether its raw or its floored number counts apart, a record in one number. */
 static float branch_number(uint64_t branch, uint64_t flag) {
@@ -180,12 +180,12 @@ static void step_line(char letter) {
         if (expect_refusal(n, a[8])) {
             expect_doubles("by the stability", &lent.grad_s, a + 9, 1);
             expect_doubles("by the difficulty", &lent.grad_d, a + 10, 1);
-            expect_doubles("slot", lent.gw, a + 11, FSRS_WEIGHTS);
+            expect_doubles("slot", lent.gw, a + 12, FSRS_WEIGHTS);
         }
     }
 }
 
-/* ---- crates/loss_vectors */
+/* ---- losses */
 
 struct slice {
     float at[CELLS];
@@ -313,11 +313,11 @@ static void run(const char *name, void (*try)(char)) {
 
 int main(int argc, char **argv) {
     if (argc != 5) {
-        fputs("usage: lists SOFT MODEL STEP LOSS\n", stderr);
+        fputs("usage: lists ARITHMETIC STUDY STEP LOSSES\n", stderr);
         return 2;
     }
-    run(argv[1], soft_line);
-    run(argv[2], model_line);
+    run(argv[1], arithmetic_line);
+    run(argv[2], study_line);
     run(argv[3], step_line);
     run(argv[4], loss_line);
     return finish();

@@ -8,7 +8,7 @@
 Everything here is whole numbers; no float is ever computed with. A float is a pattern of bits, read by its
 fields (tools/floats.py). Three parts:
 
-1. The definition, from crates/kernels/specs/{Core,Kernels}.antt and, for fma and round, crates/{fma,half_away}/specs.
+1. The definition, from crates/kernels/specs/{Core,Kernels}.antt and, for fma and round, crates/soft/specs.
    Every answer must have its bits (a NaN equals any NaN).
 2. Document 01's exact values P, E and L and its rules about them. L is worked out as one fraction. E is
    enclosed between two numbers of 256 digits after the point, every step cut the safe way; a distance that

@@ -1,5 +1,5 @@
-//! Runs the lists of vectors in `crates/*_vectors/stdin` through the safe functions, so that no argument can stand in
-//! another's place. `tools/*_vectors.py` say what a line holds.
+//! Runs lists of vectors in `crates/vectors/data` through the safe functions, so that no argument can stand in another's
+//! place. The scripts in `tools/vectors` say what a line holds.
 
 use fsrs6::*;
 
@@ -13,6 +13,11 @@ impl Words<'_> {
 
     fn numbers(&mut self, n: usize) -> Vec<u64> {
         (0..n).map(|_| self.number()).collect()
+    }
+
+    fn rest(&mut self) -> Vec<u64> {
+        let n = self.0.clone().count();
+        self.numbers(n)
     }
 
     fn slice(&mut self) -> Vec<u64> {
@@ -58,7 +63,7 @@ fn outcome<T>(answer: Result<T, Refusal>, bits: impl Fn(T) -> Vec<u64>) -> Outco
 
 /// Runs a list. `w` and `g` lines set what `try_line` is given: the weights and the slots, as bits.
 fn run(name: &str, try_line: impl Fn(char, &mut Words, &[f32], &[f64]) -> Option<(Outcome, Outcome)>) {
-    let path = format!("{}/../../crates/{name}/stdin", env!("CARGO_MANIFEST_DIR"));
+    let path = format!("{}/../../crates/vectors/data/{name}", env!("CARGO_MANIFEST_DIR"));
     let text = std::fs::read_to_string(&path).expect(&path);
     let (mut w, mut slots, mut tried) = (vec![], vec![], 0);
     for (i, line) in text.lines().enumerate().filter(|(_, line)| !line.starts_with('#')) {
@@ -79,15 +84,15 @@ fn run(name: &str, try_line: impl Fn(char, &mut Words, &[f32], &[f64]) -> Option
 }
 
 #[test]
-fn model_vectors() {
-    run("model_vectors", |letter, words, w, _| {
-        let a = words.numbers(24);
+fn study() {
+    run("study", |letter, words, w, _| {
+        let a = words.rest();
         let (x, y, z) = (single(a[0]), single(a[1]), single(a[2]));
         let one = |answer| outcome(answer, |x| vec![single_bits(x)]);
         let is = match letter {
             'F' => {
                 let filled = outcome(check_and_fill_parameters(w), |w| w.map(single_bits).to_vec());
-                let want = if a[0] == 0 { a[1..22].to_vec() } else { vec![] };
+                let want = if a[0] == 0 { a[1..].to_vec() } else { vec![] };
                 return Some((filled, (a[0], want)));
             }
             'C' => one(power_forgetting_curve(w, x, y)),
@@ -124,9 +129,9 @@ fn record(a: &[u64]) -> Vec<u64> {
 }
 
 #[test]
-fn step_vectors() {
-    run("step_vectors", |letter, words, w, slots| {
-        let a = words.numbers(34);
+fn step() {
+    run("step", |letter, words, w, slots| {
+        let a = words.rest();
         let state = State { stability: single(a[0]), difficulty: single(a[1]) };
         let step = Step { state, day: single(a[2]), rating: single(a[3]), row: a[4] as usize };
         let (is, answers) = match letter {
@@ -145,7 +150,7 @@ fn step_vectors() {
                     let state = [x.stability, x.difficulty];
                     state.into_iter().chain(gw.iter().copied()).map(double_bits).collect()
                 });
-                (is, a[9..32].to_vec())
+                (is, [&a[9..11], &a[12..]].concat())
             }
             _ => return None,
         };
@@ -165,8 +170,8 @@ fn digest(slots: &[f64], records: &[f32], step_grads: &[f64]) -> u64 {
 }
 
 #[test]
-fn loss_vectors() {
-    run("loss_vectors", |letter, words, w, slots| {
+fn losses() {
+    run("losses", |letter, words, w, slots| {
         let (rows, columns) = (words.number() as u32, words.number() as u32);
         let (days, ratings) = (words.singles(), words.singles());
         let lengths: Vec<u32> = words.slice().into_iter().map(|n| n as u32).collect();

@@ -12,7 +12,7 @@ use Rattle.domain.proofs.weights.Accepted.{accepted-length}
 use Rattle.domain.proofs.weights.Copy.{copy-whole}
 use Rattle.forward.specs.Params.{paramsDef}
 use Rattle.forward.specs.Step.{noState}
-use Rattle.forward.specs.declared.stability.State.{State}
+use Rattle.forward.specs.declared.state.State.{State}
 use Rattle.backward.specs.Step.{stepGrad, stepMoved}
 use Rattle.analytic_v6.specs.Step.{stepRefusal, blank, stepped, trainingStep, noReverse, trainingReverse, reverseRefusal, reverseSlots}
 

@@ -1,2 +1,4 @@
 -- Laws of the definitions.
+pub mod Answer
 pub mod Entry
+pub mod Laws

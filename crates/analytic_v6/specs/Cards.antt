@@ -1,21 +1,24 @@
--- card_loss_and_grad of analytic_v6.rs and its loss alone, with document 01's refusals in its order: 1, 2, 5, 3, 4, then the first fault. Assumes nothing.
+-- card_loss_and_grad of analytic_v6.rs and its loss alone, with document 01's refusals in its order: 1, 2, 5, 3, 4, then the first
+-- fault. Assumes nothing.
 use Prim.Native.Nat.{ℕ, _-_}
 use mathlib.Core.Bool.{cond}
 use mathlib.Core.List.{List}
+use mathlib.Core.Path.{_≡_}
 use lib.Dec.{eqb}
 use lib.Ieee.{Float}
 use lib.ListN.{length, set}
 use Rattle.domain.specs.Doubles.{zero64}
 use Rattle.forward.specs.Params.{paramsDef}
 use Rattle.forward.specs.declared.parameters.RuntimeParams.{RuntimeParams}
-use Rattle.checks.specs.Batch.{Cards, lengthAt, at}
-use Rattle.checks.specs.Columns.{total, through}
+use Rattle.checks.specs.Batch.{Cards, lengthAt, history, labelAt, weightAt}
+use Rattle.checks.specs.Columns.{total}
 use Rattle.checks.specs.Refusals.{cardLossRefusal, cardGradRefusal}
 use Rattle.columns.specs.Records.{roomDef}
-use Rattle.columns.specs.Back.{startGrad, backDef}
-use Rattle.columns.specs.Ends.{lastLoss, lastGrad, lastSlots, answer}
-use Rattle.columns.specs.Path.{stateAt, recordAt, storedDef, scoreAt, lossAt, gradsDef}
-use Rattle.columns.specs.declared.ends.Loss.{Loss}
+use Rattle.columns.specs.BackwardPass.{startGrad, backDef}
+use Rattle.columns.specs.LastReview.{lastLoss, lastGrad, lastSlots}
+use Rattle.columns.specs.ForwardPass.{stateAt, recordAt, storedDef, scoreAt, lossAt, gradsDef}
+use Rattle.analytic_v6.specs.Answers.{answer, leaves}
+use Rattle.analytic_v6.specs.declared.answers.Loss.{Loss}
 
 -- card_column_loss_and_grad, for one column
 module _ (p : RuntimeParams) (x : Cards) (column : ℕ) where
@@ -27,56 +30,65 @@ module _ (p : RuntimeParams) (x : Cards) (column : ℕ) where
   lastRow = cardLength - 1
 
   abbrev pub lastStability : Float
-  lastStability = stateAt p (x .table .days) (x .table .ratings) (x .table .columns) column lastRow .s
+  lastStability = stateAt p (history (x .table) column) lastRow .s
+
+  abbrev pub lastDay : Float
+  lastDay = history (x .table) column .day lastRow
 
   abbrev pub lossBefore : Float
-  lossBefore = lossAt p (x .table .days) (x .table .ratings) (x .table .columns) column (x .labels) (x .weights) lastRow
+  lossBefore = lossAt p (history (x .table) column) (labelAt x column) (weightAt x column) lastRow
 
   unfoldable pub cardLoss : Float
   cardLoss =
       cond (eqb cardLength 0) zero64
-      (lastLoss p lastRow lastStability (at (x .table) (x .table .days) lastRow column) (at (x .table) (x .labels) lastRow column) (at (x .table) (x .weights) lastRow column) lossBefore)
+      (lastLoss p lastRow lastStability lastDay (labelAt x column lastRow) (weightAt x column lastRow) lossBefore)
 
   -- first the last row's curve, then the steps, the last first, each with the gradient of its own score
   unfoldable pub cardSlots : (gw : List Float) → List Float
   cardSlots gw =
       cond (eqb cardLength 0) gw
-      (backDef p (recordAt p (x .table .days) (x .table .ratings) (x .table .columns) column)
-      (λ row. scoreAt p (x .table .days) (x .table .ratings) (x .table .columns) column (x .labels) (x .weights) row .«g_r»)
+      (backDef p (recordAt p (history (x .table) column))
+      (λ row. scoreAt p (history (x .table) column) (labelAt x column) (weightAt x column) row .«g_r»)
       lastRow
-      (startGrad
-      (lastGrad p lastRow lastStability (at (x .table) (x .table .days) lastRow column) (at (x .table) (x .labels) lastRow column) (at (x .table) (x .weights) lastRow column)))
-      (lastSlots p lastRow lastStability (at (x .table) (x .table .days) lastRow column) (at (x .table) (x .labels) lastRow column) (at (x .table) (x .weights) lastRow column) gw))
+      (startGrad (lastGrad p lastRow lastStability lastDay (labelAt x column lastRow) (weightAt x column lastRow)))
+      (lastSlots p lastRow lastStability lastDay (labelAt x column lastRow) (weightAt x column lastRow) gw))
 
   unfoldable pub cardRecords : (records : List Float) → List Float
-  cardRecords records = storedDef p (x .table .days) (x .table .ratings) (x .table .columns) column lastRow records
+  cardRecords records = storedDef p (history (x .table) column) lastRow records
 
   -- 'its last row 0'
   unfoldable pub cardGrads : (step-grads : List Float) → List Float
   cardGrads step-grads =
       cond (eqb cardLength 0) step-grads
-      (set (gradsDef p (x .table .days) (x .table .ratings) (x .table .columns) column (x .labels) (x .weights) lastRow step-grads) lastRow zero64)
+      (set (gradsDef p (history (x .table) column) (labelAt x column) (weightAt x column) lastRow step-grads) lastRow zero64)
 
 -- 'column losses add in column order in double'
-abbrev pub lossOf : (w : List Float) (x : Cards) → Float
-lossOf w x = total (cardLoss (paramsDef w) x) (x .table .columns)
+abbrev pub cardsTotal : (w : List Float) (x : Cards) → Float
+cardsTotal w x = total (cardLoss (paramsDef w) x) (x .table .columns)
 
 -- a lent slice stands for its length where only that counts: ten singles make a record
 unfoldable pub cardsLossAndGrad : (w : List Float) (x : Cards) (gw records step-grads : ℕ) → Loss
-cardsLossAndGrad w x gw records step-grads = answer (cardGradRefusal w x gw (roomDef records) step-grads) (lossOf w x)
+cardsLossAndGrad w x gw records step-grads = answer (cardGradRefusal w x gw (roomDef records) step-grads) (cardsTotal w x)
 
--- the slots are added to, and left as they were where the call is refused
+-- the slots are added to
 unfoldable pub cardsSlots : (w : List Float) (x : Cards) (gw : List Float) (records step-grads : ℕ) → List Float
 cardsSlots w x gw records step-grads =
-    cond (eqb (cardGradRefusal w x (length gw) (roomDef records) step-grads) 0) (through (cardSlots (paramsDef w) x) (x .table .columns) gw) gw
+    leaves (cardGradRefusal w x (length gw) (roomDef records) step-grads) (cardSlots (paramsDef w) x) (x .table .columns) gw
 
 unfoldable pub cardsRecords : (w : List Float) (x : Cards) (gw : ℕ) (records : List Float) (step-grads : ℕ) → List Float
 cardsRecords w x gw records step-grads =
-    cond (eqb (cardGradRefusal w x gw (roomDef (length records)) step-grads) 0) (through (cardRecords (paramsDef w) x) (x .table .columns) records) records
+    leaves (cardGradRefusal w x gw (roomDef (length records)) step-grads) (cardRecords (paramsDef w) x) (x .table .columns) records
 
 unfoldable pub cardsGrads : (w : List Float) (x : Cards) (gw records : ℕ) (step-grads : List Float) → List Float
 cardsGrads w x gw records step-grads =
-    cond (eqb (cardGradRefusal w x gw (roomDef records) (length step-grads)) 0) (through (cardGrads (paramsDef w) x) (x .table .columns) step-grads) step-grads
+    leaves (cardGradRefusal w x gw (roomDef records) (length step-grads)) (cardGrads (paramsDef w) x) (x .table .columns) step-grads
+
+-- what card_loss_and_grad leaves in what it was lent
+abbrev pub CardsLeave : (w : List Float) (x : Cards) (gw records step-grads gw-exit records-exit step-grads-exit : List Float) → Type 0
+CardsLeave w x gw records step-grads gw-exit records-exit step-grads-exit =
+    (gw-exit ≡ cardsSlots w x gw (length records) (length step-grads)) ×
+    (records-exit ≡ cardsRecords w x (length gw) records (length step-grads)) ×
+    (step-grads-exit ≡ cardsGrads w x (length gw) (length records) step-grads)
 
 unfoldable pub cardsLoss : (w : List Float) (x : Cards) → Loss
-cardsLoss w x = answer (cardLossRefusal w x) (lossOf w x)
+cardsLoss w x = answer (cardLossRefusal w x) (cardsTotal w x)

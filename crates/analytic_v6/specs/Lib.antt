@@ -1,3 +1,4 @@
+pub mod Answers
 pub mod Cards
 pub mod Prefixes
 pub mod Step

@@ -1,4 +1,5 @@
--- The entries of one training step and of its reverse, with document 01's refusals: 1, 2, 5 (the reverse), 13 for a state not finite, 6, 7. Assumes nothing.
+-- The entries of one training step and of its reverse, with document 01's refusals: 1, 2, 5 (the reverse), 13 for a state not
+-- finite, 6, 7. Assumes nothing.
 use Prim.Native.Nat.{ℕ}
 use mathlib.Core.Bool.{Bool, true, _&&_, _||_, cond}
 use mathlib.Core.List.{List}
@@ -12,10 +13,10 @@ use Rattle.checks.specs.Reads.{ratingGood}
 use Rattle.domain.specs.Weights.{weightsRefusal}
 use Rattle.forward.specs.Params.{paramsDef}
 use Rattle.forward.specs.Step.{noState, isFirst, stepDef}
-use Rattle.forward.specs.declared.stability.Branch.the-variants.{Padding}
-use Rattle.forward.specs.declared.stability.State.{State}
-use Rattle.forward.specs.declared.step.StepRecord.{StepRecord}
-use Rattle.forward.specs.declared.step.Stepped.{Stepped}
+use Rattle.forward.specs.declared.state.Branch.the-variants.{Padding}
+use Rattle.forward.specs.declared.state.State.{State}
+use Rattle.forward.specs.declared.state.StepRecord.{StepRecord}
+use Rattle.forward.specs.declared.state.Stepped.{Stepped}
 use Rattle.backward.specs.Step.{stepGrad, stepMoved}
 use Rattle.analytic_v6.specs.declared.step.TrainingStep.{TrainingStep}
 use Rattle.analytic_v6.specs.declared.step.TrainingReverse.{TrainingReverse}

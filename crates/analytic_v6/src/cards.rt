@@ -1,2 +1,3 @@
-// The card loss of analytic_v6.rs with its gradient: each column is a card, and every review after its first is scored.
+// The card loss: with its gradient, and alone.
 pub mod grad;
+pub mod loss;

@@ -1,2 +1,3 @@
-// The prefix loss of analytic_v6.rs with its gradient: each column is a history, and only the review after it is scored.
+// The prefix loss: with its gradient, and alone.
 pub mod grad;
+pub mod loss;

@@ -5,18 +5,18 @@ ghost use lib.ListN.{length};
 ghost use Rattle.analytic_v6.specs.Step.{isUnread, finiteState, stepRefusal, blank, trainingStep, trainingReverse, reverseSlots};
 use backward::step::StateGrad;
 use backward::step::step_backward;
-use forward::stability::Branch;
-use forward::stability::State;
+use checks::reads::is_rating;
 use domain::floats::is_finite;
 use domain::limits::is_day;
-use forward::step::StepRecord;
-use forward::step::is_first;
-use forward::step::step_forward;
-use forward::parameters::runtime_params;
-use checks::reads::either;
-use checks::reads::is_rating;
 use domain::weights::copy_weights;
 use domain::weights::weights_refusal;
+use forward::parameters::runtime_params;
+use forward::state::Branch;
+use forward::state::State;
+use forward::state::StepRecord;
+use forward::step::is_first;
+use forward::step::step_forward;
+use soft::flags::either;
 
 // The number of a refusal, 0 where there is none; the state after the step and its record, all +0.0 where there is one.
 pub struct TrainingStep {
@@ -126,7 +126,9 @@ pub fn training_step_backward(
     g_r: f64,
     gw: &mut [f64],
 ) -> TrainingReverse
-    ensures { λ r. ⌜ (r ≡ trainingReverse (now (w .entry)) q day rating row «g_s» «g_d» «g_r» (length (now (gw .entry)))) × (now (gw .exit) ≡ reverseSlots (now (w .entry)) q day rating row «g_s» «g_d» «g_r» (now (gw .entry))) ⌝ }
+    ensures { λ r. ⌜
+        (r ≡ trainingReverse (now (w .entry)) q day rating row «g_s» «g_d» «g_r» (length (now (gw .entry)))) ×
+        (now (gw .exit) ≡ reverseSlots (now (w .entry)) q day rating row «g_s» «g_d» «g_r» (now (gw .entry))) ⌝ }
 {
     let n = step_refusal(w, gw.len() == 21, q, day, rating, row);
     if n != 0 {

@@ -11,17 +11,17 @@ use Rattle.domain.specs.Doubles.{zero64}
 use Rattle.domain.specs.Limits.{two, four}
 use Rattle.domain.specs.Weights.{_!_}
 use Rattle.forward.specs.Params.{initDifficulty}
-use Rattle.forward.specs.Reads.{among, firstWeights, common, successWeights}
+use Rattle.forward.specs.WeightsRead.{among, firstWeights, common, successWeights}
 use Rattle.forward.specs.declared.curve.CurveCache.{CurveCache}
 use Rattle.forward.specs.declared.parameters.RuntimeParams.{RuntimeParams}
-use Rattle.forward.specs.declared.stability.Branch.{Branch}
-use Rattle.forward.specs.declared.stability.Branch.the-variants.{Padding, First, SameDay, Lapse, Success}
-use Rattle.forward.specs.declared.step.StepRecord.{StepRecord}
+use Rattle.forward.specs.declared.state.Branch.{Branch}
+use Rattle.forward.specs.declared.state.Branch.the-variants.{Padding, First, SameDay, Lapse, Success}
+use Rattle.forward.specs.declared.state.StepRecord.{StepRecord}
 use Rattle.backward.specs.Curve.{curveSlots}
 use Rattle.backward.specs.Difficulty.{meanGrad, partsOf, difficultySlots, difficultyMoved, initSlots, initMoved}
-use Rattle.backward.specs.Moves.{slotsOf, mayMove}
+use Rattle.backward.specs.Moves.{slotsOf, stepMayMove}
 use Rattle.backward.specs.Slots.{bump, bumpIf}
-use Rattle.backward.specs.Stability.{shortSlots, shortMoved}
+use Rattle.backward.specs.Short.{shortSlots, shortMoved}
 use Rattle.backward.specs.Failure.{floorSlots, lapseSlots, failureMoved}
 use Rattle.backward.specs.Success.{successSlots, successMoved}
 use Rattle.backward.specs.Step.{carried, firstFlow, flowDef, preGrad, firstMoved, shortAll, lapseAll, successAll, flowMoved, stepMoved}
@@ -134,12 +134,14 @@ module _ (k : ℕ) where
       (λ e. bump-keeps _ 5 _ (head 5 [] (tail 4 (5 ∷ []) o4)) ∙ bump-keeps _ 4 _ (head 4 (5 ∷ []) o4) ∙ own)
       (λ e. own)
 
-  pub curve-keeps : (slope : Float) (c : CurveCache) (g : Float) (gw : List Float) → eqb k 20 && not (eq g zero64) ≡ false → curveSlots slope c g gw ! k ≡ gw ! k
+  pub curve-keeps :
+      (slope : Float) (c : CurveCache) (g : Float) (gw : List Float) → eqb k 20 && not (eq g zero64) ≡ false → curveSlots slope c g gw ! k ≡ gw ! k
   unfolding curveSlots
   curve-keeps slope c g gw o = cond-keeps (eq g zero64) _ _ gw (λ e. refl) (λ e. bump-keeps gw 20 _ (not-20 (eqb k 20) (eq g zero64) e o))
 
   flow-keeps :
-      (p : RuntimeParams) (c : StepRecord) (b : Branch) (g-s g-d : Float) (gw : List Float) → Out (slotsOf b (c .rating)) → flowMoved p c b g-s g-d gw ! k ≡ gw ! k
+      (p : RuntimeParams) (c : StepRecord) (b : Branch) (g-s g-d : Float) (gw : List Float) → Out (slotsOf b (c .rating)) →
+      flowMoved p c b g-s g-d gw ! k ≡ gw ! k
   unfolding flowMoved slotsOf firstMoved shortAll lapseAll successAll shortMoved failureMoved successMoved
   flow-keeps p c Padding g-s g-d gw o = refl
   flow-keeps p c (First n) g-s g-d gw o = first-keeps (p .w ! 4) (p .w ! 5) n g-s g-d gw o
@@ -155,14 +157,17 @@ module _ (k : ℕ) where
       then-keeps p _ _ _ g-d _ (out-after (11 ∷ 12 ∷ 13 ∷ 14 ∷ []) common o) ∙
       cond-keeps (eq g-s zero64) gw (lapseSlots _ g-s gw) gw (λ e. refl) (λ e. lapse-keeps _ g-s gw o)
   flow-keeps p c Success g-s g-d gw o =
-      let long = out-after (cond (eq (c .rating) four) (16 ∷ []) []) (8 ∷ 9 ∷ 10 ∷ common) (out-after (cond (eq (c .rating) two) (15 ∷ []) []) _ o) in
+      let o16 = out-after (cond (eq (c .rating) two) (15 ∷ []) []) _ o in
+      let long = out-after (cond (eq (c .rating) four) (16 ∷ []) []) (8 ∷ 9 ∷ 10 ∷ common) o16 in
       then-keeps p _ _ _ g-d _ (out-after (8 ∷ 9 ∷ 10 ∷ []) common long) ∙
       cond-keeps (eq g-s zero64) gw (successSlots _ (c .rating) gw) gw (λ e. refl) (λ e. success-keeps _ (c .rating) gw o)
 
   not-twenty : Out common → (t : Bool) → eqb k 20 && t ≡ false
   not-twenty o t = rw (head 20 [] (out-after (4 ∷ 5 ∷ 6 ∷ 7 ∷ []) (20 ∷ []) o))
 
-  common-out : (b : Branch) (rating : Float) → Out (slotsOf b rating) → (g-r g : Float) → eqb k 20 && not (eq g-r zero64) ≡ false → (b ≡ Padding → g ≡ g-r) → ((n : ℕ) → b ≡ First n → g ≡ g-r) → eqb k 20 && not (eq g zero64) ≡ false
+  common-out :
+      (b : Branch) (rating : Float) → Out (slotsOf b rating) → (g-r g : Float) → eqb k 20 && not (eq g-r zero64) ≡ false →
+      (b ≡ Padding → g ≡ g-r) → ((n : ℕ) → b ≡ First n → g ≡ g-r) → eqb k 20 && not (eq g zero64) ≡ false
   unfolding slotsOf
   common-out Padding rating o g-r g e same own = rw (same refl) e
   common-out (First n) rating o g-r g e same own = rw (own n refl) e
@@ -185,13 +190,14 @@ module _ (k : ℕ) where
 
   -- the law
   pub step-keeps :
-      (p : RuntimeParams) (c : StepRecord) (g-out-s g-out-d g-r : Float) (gw : List Float) → mayMove c g-r k ≡ false →
+      (p : RuntimeParams) (c : StepRecord) (g-out-s g-out-d g-r : Float) (gw : List Float) → stepMayMove c g-r k ≡ false →
       stepMoved p c g-out-s g-out-d g-r gw ! k ≡ gw ! k
-  unfolding stepMoved mayMove
+  unfolding stepMoved stepMayMove
   step-keeps p c g-out-s g-out-d g-r gw o =
-      let out = or-left (among k (slotsOf (c .branch) (c .rating))) (eqb k 20 && not (eq g-r zero64)) o in
-      let scored = or-right (among k (slotsOf (c .branch) (c .rating))) (eqb k 20 && not (eq g-r zero64)) o in
+      let b = c .branch in
+      let out = or-left (among k (slotsOf b (c .rating))) (eqb k 20 && not (eq g-r zero64)) o in
+      let scored = or-right (among k (slotsOf b (c .rating))) (eqb k 20 && not (eq g-r zero64)) o in
       let g-s = preGrad c g-out-s in
       curve-keeps _ _ _ _
-      (common-out (c .branch) (c .rating) out g-r _ scored (same-padding p c (c .branch) g-s g-out-d g-r) (same-first p c (c .branch) g-s g-out-d g-r)) ∙
-      flow-keeps p c (c .branch) g-s g-out-d gw out
+      (common-out b (c .rating) out g-r _ scored (same-padding p c b g-s g-out-d g-r) (same-first p c b g-s g-out-d g-r)) ∙
+      flow-keeps p c b g-s g-out-d gw out

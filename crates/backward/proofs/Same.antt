@@ -7,28 +7,31 @@ use lib.Ieee.{Float, eq}
 use Rattle.domain.specs.Limits.{one, two, four}
 use Rattle.domain.specs.Weights.{_!_}
 use Rattle.forward.specs.Params.{paramsDef}
-use Rattle.forward.specs.declared.stability.Branch.{Branch}
-use Rattle.forward.specs.declared.stability.Branch.the-variants.{Padding, First, SameDay, Lapse, Success}
-use Rattle.forward.specs.Reads.{among, common, successWeights, Agree}
-use Rattle.forward.specs.declared.step.StepRecord.{StepRecord}
+use Rattle.forward.specs.declared.state.Branch.{Branch}
+use Rattle.forward.specs.declared.state.Branch.the-variants.{Padding, First, SameDay, Lapse, Success}
+use Rattle.forward.specs.WeightsRead.{among, common, successWeights, Agree}
+use Rattle.forward.specs.declared.state.StepRecord.{StepRecord}
 use Rattle.forward.proofs.Agreement.{before, after, one-of, long-of}
 use Rattle.backward.specs.Difficulty.{difficultyBack, difficultyMoved, initMoved}
-use Rattle.backward.specs.Stability.{shortBack, shortMoved}
 use Rattle.backward.specs.Failure.{failureBack, failureMoved}
 use Rattle.backward.specs.Success.{successOf, successBack, successMoved}
 use Rattle.backward.specs.Moves.{reverseReads}
-use Rattle.backward.specs.Step.{shortFlow, shortAll, lapseFlow, lapseAll, successFlow, successAll, firstMoved, flowDef, flowMoved, curveOf, stepGrad, stepMoved, preGrad}
+use Rattle.backward.specs.Step.{throughShort, throughLapse, throughSuccess, throughDifficulty, thenShort, thenLapse, thenSuccess, thenDifficulty}
+use Rattle.backward.specs.Step.{shortFlow, shortAll, lapseFlow, lapseAll, successFlow, successAll, firstMoved, flowDef, flowMoved}
+use Rattle.backward.specs.Step.{curveOf, stepGrad, stepMoved, preGrad}
 
 module _ (w v : List Float) (c : StepRecord) where
-  same-difficulty : (g : Float) → Agree common w v → difficultyBack (paramsDef w) (c .last .d) (c .rating) (c .«pre_d») g ≡ difficultyBack (paramsDef v) (c .last .d) (c .rating) (c .«pre_d») g
+  same-difficulty : (g : Float) → Agree common w v → throughDifficulty (paramsDef w) c g ≡ throughDifficulty (paramsDef v) c g
   unfolding difficultyBack paramsDef among
   same-difficulty g h = rw (h 6 refl, h 7 refl)
 
-  then-same : (g : Float) (gw : List Float) → Agree common w v → difficultyMoved (paramsDef w) (c .last .d) (c .rating) (c .«pre_d») g gw ≡ difficultyMoved (paramsDef v) (c .last .d) (c .rating) (c .«pre_d») g gw
+  then-same : (g : Float) (gw : List Float) → Agree common w v → thenDifficulty (paramsDef w) c g gw ≡ thenDifficulty (paramsDef v) c g gw
   unfolding difficultyMoved paramsDef among
   then-same g gw h = rw (h 4 refl, h 5 refl, h 6 refl, h 7 refl)
 
-  same-parts : (g : Float) → Agree (successWeights (c .rating)) w v → successOf (paramsDef w) (c .last) (c .rating) (c .retrievability) g ≡ successOf (paramsDef v) (c .last) (c .rating) (c .retrievability) g
+  same-parts :
+      (g : Float) → Agree (successWeights (c .rating)) w v →
+      successOf (paramsDef w) (c .last) (c .rating) (c .retrievability) g ≡ successOf (paramsDef v) (c .last) (c .rating) (c .retrievability) g
   unfolding paramsDef among
   same-parts g h =
       let l = long-of w v (c .rating) h in
@@ -38,43 +41,40 @@ module _ (w v : List Float) (c : StepRecord) where
 
   same-short :
       (raw value : Float) (active : Bool) (g : Float) → Agree (17 ∷ 18 ∷ 19 ∷ common) w v →
-      shortBack (paramsDef w .w ! 19) (c .last .s) raw value active g ≡ shortBack (paramsDef v .w ! 19) (c .last .s) raw value active g
+      throughShort (paramsDef w) c raw value active g ≡ throughShort (paramsDef v) c raw value active g
   unfolding paramsDef among
   same-short raw value active g h = rw (h 19 refl)
 
   short-same :
       (raw : Float) (active : Bool) (g : Float) (gw : List Float) → Agree (17 ∷ 18 ∷ 19 ∷ common) w v →
-      shortMoved (paramsDef w .w ! 17) (paramsDef w .w ! 18) (c .last .s) (c .rating) raw active g gw ≡
-      shortMoved (paramsDef v .w ! 17) (paramsDef v .w ! 18) (c .last .s) (c .rating) raw active g gw
+      thenShort (paramsDef w) c raw active g gw ≡ thenShort (paramsDef v) c raw active g gw
   unfolding paramsDef among
   short-same raw active g gw h = rw (h 17 refl, h 18 refl)
 
   same-lapse :
       (raw floor : Float) (floored : Bool) (g : Float) → Agree (11 ∷ 12 ∷ 13 ∷ 14 ∷ 17 ∷ 18 ∷ common) w v →
-      failureBack (paramsDef w) (c .last) (c .retrievability) raw floor floored g ≡ failureBack (paramsDef v) (c .last) (c .retrievability) raw floor floored g
+      throughLapse (paramsDef w) c raw floor floored g ≡ throughLapse (paramsDef v) c raw floor floored g
   unfolding failureBack paramsDef among
   same-lapse raw floor floored g h = rw (h 11 refl, h 12 refl, h 13 refl, h 14 refl)
 
   lapse-same :
       (raw floor : Float) (floored : Bool) (g : Float) (gw : List Float) → Agree (11 ∷ 12 ∷ 13 ∷ 14 ∷ 17 ∷ 18 ∷ common) w v →
-      failureMoved (paramsDef w) (c .last) (c .retrievability) raw floor floored g gw ≡
-      failureMoved (paramsDef v) (c .last) (c .retrievability) raw floor floored g gw
+      thenLapse (paramsDef w) c raw floor floored g gw ≡ thenLapse (paramsDef v) c raw floor floored g gw
   unfolding failureMoved paramsDef among
   lapse-same raw floor floored g gw h = rw (h 11 refl, h 12 refl, h 13 refl, h 14 refl, h 17 refl, h 18 refl)
 
-  success-same :
-      (g : Float) → Agree (successWeights (c .rating)) w v →
-      successBack (paramsDef w) (c .last) (c .rating) (c .retrievability) g ≡ successBack (paramsDef v) (c .last) (c .rating) (c .retrievability) g
+  success-same : (g : Float) → Agree (successWeights (c .rating)) w v → throughSuccess (paramsDef w) c g ≡ throughSuccess (paramsDef v) c g
   unfolding successBack
   success-same g h = rw (same-parts g h)
 
   long-same :
-      (g : Float) (gw : List Float) → Agree (successWeights (c .rating)) w v →
-      successMoved (paramsDef w) (c .last) (c .rating) (c .retrievability) g gw ≡ successMoved (paramsDef v) (c .last) (c .rating) (c .retrievability) g gw
+      (g : Float) (gw : List Float) → Agree (successWeights (c .rating)) w v → thenSuccess (paramsDef w) c g gw ≡ thenSuccess (paramsDef v) c g gw
   unfolding successMoved
   long-same g gw h = rw (same-parts g h)
 
-  flow-same : (b : Branch) (g-s g-d g-r : Float) → Agree (reverseReads b (c .rating)) w v → flowDef (paramsDef w) c b g-s g-d g-r ≡ flowDef (paramsDef v) c b g-s g-d g-r
+  flow-same :
+      (b : Branch) (g-s g-d g-r : Float) → Agree (reverseReads b (c .rating)) w v →
+      flowDef (paramsDef w) c b g-s g-d g-r ≡ flowDef (paramsDef v) c b g-s g-d g-r
   unfolding flowDef reverseReads shortFlow lapseFlow successFlow
   flow-same Padding g-s g-d g-r h = refl
   flow-same (First n) g-s g-d g-r h = refl
@@ -91,7 +91,9 @@ module _ (w v : List Float) (c : StepRecord) where
   unfolding paramsDef among
   first-same n g-s g-d gw h = rw (h 4 refl, h 5 refl)
 
-  moved-same : (b : Branch) (g-s g-d : Float) (gw : List Float) → Agree (reverseReads b (c .rating)) w v → flowMoved (paramsDef w) c b g-s g-d gw ≡ flowMoved (paramsDef v) c b g-s g-d gw
+  moved-same :
+      (b : Branch) (g-s g-d : Float) (gw : List Float) → Agree (reverseReads b (c .rating)) w v →
+      flowMoved (paramsDef w) c b g-s g-d gw ≡ flowMoved (paramsDef v) c b g-s g-d gw
   unfolding flowMoved reverseReads firstMoved shortAll lapseAll successAll
   moved-same Padding g-s g-d gw h = refl
   moved-same (First n) g-s g-d gw h = first-same n g-s g-d gw h
@@ -119,7 +121,9 @@ module _ (w v : List Float) (c : StepRecord) where
   same-slope e = rw e
 
   -- the law, for the gradients and for the slots
-  pub same-grad : (g-out-s g-out-d g-r : Float) → Agree (reverseReads (c .branch) (c .rating)) w v → stepGrad (paramsDef w) c g-out-s g-out-d g-r ≡ stepGrad (paramsDef v) c g-out-s g-out-d g-r
+  pub same-grad :
+      (g-out-s g-out-d g-r : Float) → Agree (reverseReads (c .branch) (c .rating)) w v →
+      stepGrad (paramsDef w) c g-out-s g-out-d g-r ≡ stepGrad (paramsDef v) c g-out-s g-out-d g-r
   unfolding stepGrad
   same-grad g-out-s g-out-d g-r h = rw (flow-same (c .branch) (preGrad c g-out-s) g-out-d g-r h, same-curve (twenty-of (c .branch) h))
 

@@ -28,10 +28,10 @@ difficultyParts w6 w7 d rating =
 -- slots 7, 4, 5, 6; g is g_mean, and g_next = g_mean * (1.0 - w[7])
 unfoldable pub difficultySlots : (c : DifficultyParts) (easy-d exp-3w5 g : Float) (gw : List Float) → List Float
 difficultySlots c easy-d exp-3w5 g gw =
-    bump
-    (bump (bump (bump gw 7 (g *ᵈ (easy-d -ᵈ c .«next_d»))) 4 (g *ᵈ c .w7)) 5 (g *ᵈ c .w7 *ᵈ neg three64 *ᵈ exp-3w5))
-    6
-    (g *ᵈ (one64 -ᵈ c .w7) *ᵈ (ten64 -ᵈ c .«last_d») *ᵈ neg (c .«rating_minus_3») /ᵈ nine64)
+    let with7 = bump gw 7 (g *ᵈ (easy-d -ᵈ c .«next_d»)) in
+    let with4 = bump with7 4 (g *ᵈ c .w7) in
+    let with5 = bump with4 5 (g *ᵈ c .w7 *ᵈ neg three64 *ᵈ exp-3w5) in
+    bump with5 6 (g *ᵈ (one64 -ᵈ c .w7) *ᵈ (ten64 -ᵈ c .«last_d») *ᵈ neg (c .«rating_minus_3») /ᵈ nine64)
 
 unfoldable pub difficultyGrad : (c : DifficultyParts) (g : Float) → Float
 difficultyGrad c g = g *ᵈ (one64 -ᵈ c .w7) *ᵈ (one64 -ᵈ c .«delta_d» /ᵈ nine64)

@@ -1,9 +1,10 @@
 pub mod Curve
 pub mod Difficulty
 pub mod Failure
+pub mod Grads
 pub mod Moves
-pub mod Own
+pub mod Short
 pub mod Slots
-pub mod Stability
 pub mod Step
 pub mod Success
+pub mod inner

@@ -5,12 +5,13 @@ use mathlib.Core.List.{List, [], _∷_}
 use lib.Dec.{eqb}
 use lib.Ieee.{Float, eq}
 use Rattle.domain.specs.Doubles.{zero64}
-use Rattle.forward.specs.Reads.{among, firstWeights, common, successWeights}
-use Rattle.forward.specs.declared.stability.Branch.{Branch}
-use Rattle.forward.specs.declared.stability.Branch.the-variants.{Padding, First, SameDay, Lapse, Success}
-use Rattle.forward.specs.declared.step.StepRecord.{StepRecord}
+use Rattle.forward.specs.WeightsRead.{among, firstWeights, common, successWeights}
+use Rattle.forward.specs.declared.state.Branch.{Branch}
+use Rattle.forward.specs.declared.state.Branch.the-variants.{Padding, First, SameDay, Lapse, Success}
+use Rattle.forward.specs.declared.state.StepRecord.{StepRecord}
 
--- 'padding: none'; 'first: the same'; '4-7, 20' and '17-19, if the raw multiplier counts', '11-14, or 17, 18 if floored', or those of the success
+-- 'padding: none'; 'first: the same'; every other 4-7, 20, and '17-19, if the raw multiplier counts', '11-14, or 17, 18 if floored',
+-- or a success's own
 unfoldable pub slotsOf : (branch : Branch) (rating : Float) → List ℕ
 slotsOf Padding rating = []
 slotsOf (First n) rating = firstWeights n
@@ -19,8 +20,8 @@ slotsOf (Lapse raw floor floored) rating = cond floored (17 ∷ 18 ∷ common) (
 slotsOf Success rating = successWeights rating
 
 -- 'A scored curve may move slot 20': g-r is the gradient that comes in by the retrievability
-unfoldable pub mayMove : (c : StepRecord) (g-r : Float) (k : ℕ) → Bool
-mayMove c g-r k = among k (slotsOf (c .branch) (c .rating)) || (eqb k 20 && not (eq g-r zero64))
+unfoldable pub stepMayMove : (c : StepRecord) (g-r : Float) (k : ℕ) → Bool
+stepMayMove c g-r k = among k (slotsOf (c .branch) (c .rating)) || (eqb k 20 && not (eq g-r zero64))
 
 -- The weights that a step's reverse reads: those of its branch, and 20, by which every curve goes.
 unfoldable pub reverseReads : (branch : Branch) (rating : Float) → List ℕ

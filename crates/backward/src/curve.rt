@@ -1,13 +1,13 @@
 // The forgetting curve's reverse.
 ghost use mathlib.Core.Path.{_≡_};
 ghost use Rattle.backward.specs.Curve.{widenedDef, curveGrad, curveSlot, curveBack, curveSlots};
+use crate::slots::add;
 use forward::curve::CurveCache;
 use kernels::ln::ln_f64;
-use crate::slots::add;
 use std::num::f32_to_f64_with_nan;
 
 // The cached curve in doubles.
-pub struct Wide {
+pub struct WideCurve {
     pub t: f64,
     pub s: f64,
     pub decay: f64,
@@ -16,7 +16,7 @@ pub struct Wide {
     pub r: f64,
 }
 
-fn widened(c: CurveCache) -> Wide
+fn widened(c: CurveCache) -> WideCurve
     ensures { λ q. ⌜ q ≡ widenedDef c ⌝ }
 {
     let t = f32_to_f64_with_nan(c.t);
@@ -25,7 +25,7 @@ fn widened(c: CurveCache) -> Wide
     let factor = f32_to_f64_with_nan(c.factor);
     let base = f32_to_f64_with_nan(c.base);
     let r = f32_to_f64_with_nan(c.retrievability);
-    Wide {
+    WideCurve {
         t,
         s,
         decay,
@@ -36,7 +36,7 @@ fn widened(c: CurveCache) -> Wide
 }
 
 // What reaches the stability.
-fn curve_grad(c: Wide, g_r: f64) -> f64
+fn curve_grad(c: WideCurve, g_r: f64) -> f64
     ensures { λ q. ⌜ q ≡ curveGrad c «g_r» ⌝ }
 {
     let db_ds = -c.t * c.factor / (c.s * c.s);
@@ -44,7 +44,7 @@ fn curve_grad(c: Wide, g_r: f64) -> f64
 }
 
 // What slot 20 gets.
-fn curve_slot(c: Wide, slope: f64, g_r: f64) -> f64
+fn curve_slot(c: WideCurve, slope: f64, g_r: f64) -> f64
     ensures { λ q. ⌜ q ≡ curveSlot c slope «g_r» ⌝ }
 {
     let db_ddecay = c.t / c.s * slope;
@@ -53,7 +53,8 @@ fn curve_slot(c: Wide, slope: f64, g_r: f64) -> f64
 }
 
 pub fn curve_backward(slope: f64, cache: CurveCache, g_r: f64, gw: &mut [f64]) -> f64
-    ensures { λ q. ⌜ (q ≡ curveBack cache «g_r») × (now (gw .exit) ≡ curveSlots slope cache «g_r» (now (gw .entry))) ⌝ }
+    ensures { λ q. ⌜ (q ≡ curveBack cache «g_r»)
+        × (now (gw .exit) ≡ curveSlots slope cache «g_r» (now (gw .entry))) ⌝ }
 {
     if g_r == 0.0 {
         return 0.0;

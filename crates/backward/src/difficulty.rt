@@ -1,12 +1,13 @@
 // The reverse of the difficulty's update, and of a first review.
 ghost use mathlib.Core.Path.{_≡_};
 ghost use Prim.Native.Nat.{_-_};
-ghost use Rattle.backward.specs.Difficulty.{difficultyParts, difficultySlots, difficultyGrad, meanGrad, difficultyBack, difficultyMoved, initSlots, initMoved};
+ghost use Rattle.backward.specs.Difficulty.{difficultyParts, difficultySlots, difficultyGrad, difficultyBack, difficultyMoved};
+ghost use Rattle.backward.specs.Difficulty.{meanGrad, initSlots, initMoved};
+use crate::slots::add;
 use domain::difficulty::rating_offset;
-use kernels::exp::exp_f64;
 use forward::parameters::RuntimeParams;
 use forward::parameters::init_difficulty;
-use crate::slots::add;
+use kernels::exp::exp_f64;
 use std::num::f32_to_f64_with_nan;
 
 pub struct DifficultyParts {
@@ -72,7 +73,8 @@ pub fn backward_difficulty(
     g_out: f64,
     gw: &mut [f64],
 ) -> f64
-    ensures { λ q. ⌜ (q ≡ difficultyBack p d rating «pre_d» «g_out») × (now (gw .exit) ≡ difficultyMoved p d rating «pre_d» «g_out» (now (gw .entry))) ⌝ }
+    ensures { λ q. ⌜ (q ≡ difficultyBack p d rating «pre_d» «g_out»)
+        × (now (gw .exit) ≡ difficultyMoved p d rating «pre_d» «g_out» (now (gw .entry))) ⌝ }
 {
     if g_out == 0.0 {
         return 0.0;

@@ -1,19 +1,19 @@
-// analytic_v6.rs, backward: the reverse of a lapse.
+// The reverse of a lapse.
 ghost use mathlib.Core.Path.{_≡_};
-ghost use Rattle.kernels.specs.Calls.{ln64};
 ghost use Rattle.backward.specs.Failure.{floorGrads, floorSlots, lapseParts, lapseSlots, lapseGrads, failureBack, failureMoved};
-use forward::stability::State;
-use kernels::exp::exp_f64;
-use crate::stability::Grads;
-use crate::stability::no_grads;
-use kernels::both::pow_ln_f64;
-use forward::parameters::RuntimeParams;
+use crate::grads::Grads;
+use crate::grads::no_grads;
 use crate::slots::add;
+use forward::parameters::RuntimeParams;
+use forward::state::State;
+use kernels::exp::exp_f64;
+use kernels::pow_ln::pow_ln_f64;
 use std::num::f32_to_f64_with_nan;
 
 // The floor was taken: slots 17 and 18.
 fn backward_floor(w17: f32, w18: f32, s: f32, floor: f32, g: f64, gw: &mut [f64]) -> Grads
-    ensures { λ q. ⌜ (q ≡ floorGrads s floor g) × (now (gw .exit) ≡ floorSlots w17 w18 floor g (now (gw .entry))) ⌝ }
+    ensures { λ q. ⌜ (q ≡ floorGrads s floor g)
+        × (now (gw .exit) ≡ floorSlots w17 w18 floor g (now (gw .entry))) ⌝ }
 {
     let s64 = f32_to_f64_with_nan(s);
     let floor64 = f32_to_f64_with_nan(floor);
@@ -78,7 +78,6 @@ fn lapse_parts(w11: f32, w12: f32, w13: f32, w14: f32, last: State, r: f32, raw:
 }
 
 fn lapse_slots(c: LapseParts, g: f64, gw: &mut [f64])
-    requires { ⌜ (c .«ln_d» ≡ ln64 (c .d)) × (c .«ln_base» ≡ ln64 (c .base)) ⌝ }
     ensures { λ q. ⌜ now (gw .exit) ≡ lapseSlots c g (now (gw .entry)) ⌝ }
 {
     let v11 = g * c.raw / c.w11;
@@ -112,7 +111,8 @@ fn backward_raw(
     g: f64,
     gw: &mut [f64],
 ) -> Grads
-    ensures { λ q. ⌜ (q ≡ lapseGrads (lapseParts w11 w12 w13 w14 last r raw) g) × (now (gw .exit) ≡ lapseSlots (lapseParts w11 w12 w13 w14 last r raw) g (now (gw .entry))) ⌝ }
+    ensures { λ q. ⌜ (q ≡ lapseGrads (lapseParts w11 w12 w13 w14 last r raw) g)
+        × (now (gw .exit) ≡ lapseSlots (lapseParts w11 w12 w13 w14 last r raw) g (now (gw .entry))) ⌝ }
 {
     let c = lapse_parts(w11, w12, w13, w14, last, r, raw);
     lapse_slots(c, g, gw);
@@ -129,7 +129,8 @@ pub fn backward_failure(
     g: f64,
     gw: &mut [f64],
 ) -> Grads
-    ensures { λ q. ⌜ (q ≡ failureBack p last r raw floor floored g) × (now (gw .exit) ≡ failureMoved p last r raw floor floored g (now (gw .entry))) ⌝ }
+    ensures { λ q. ⌜ (q ≡ failureBack p last r raw floor floored g)
+        × (now (gw .exit) ≡ failureMoved p last r raw floor floored g (now (gw .entry))) ⌝ }
 {
     if g == 0.0 {
         return no_grads();

@@ -1,12 +1,11 @@
-// analytic_v6.rs, backward: adding to the 21 slots. The crates of the reverse that stand on this take the weights that they
-// read and add to the slots that they may move, in the text's order, zero tests and early returns included: these decide
-// which slots keep their bits.
-pub mod slots;
+// analytic_v6.rs, backward: a gradient goes back through exactly the branch that a step took, and into the 21 slots. Each
+// function takes the weights that it reads and adds to the slots that it may move, in the text's order, zero tests and early
+// returns included: these decide which slots keep their bits.
 pub mod curve;
-pub mod difficulty;
-// analytic_v6.rs, backward: the gradients by a state, and the reverse of a review on the same day.
-pub mod stability;
-pub mod failure;
-pub mod success;
-// analytic_v6.rs, backward: a gradient goes back through exactly the branch that a step took, and into the 21 slots.
+mod difficulty;
+mod failure;
+mod grads;
+mod short;
+pub mod slots;
 pub mod step;
+mod success;

@@ -8,7 +8,7 @@ use domain::difficulty::is_difficulty;
 use domain::limits::is_stability;
 
 // gw[i] += value, where there is such a slot.
-pub fn add(gw: &mut [f64], i: usize, value: f64)
+pub(crate) fn add(gw: &mut [f64], i: usize, value: f64)
     ensures { λ r. ⌜ now (gw .exit) ≡ bump (now (gw .entry)) i value ⌝ }
 {
     if i < gw.len() {
@@ -16,7 +16,7 @@ pub fn add(gw: &mut [f64], i: usize, value: f64)
     }
 }
 
-pub fn add_if(c: bool, gw: &mut [f64], i: usize, value: f64)
+pub(crate) fn add_if(c: bool, gw: &mut [f64], i: usize, value: f64)
     ensures { λ r. ⌜ now (gw .exit) ≡ bumpIf c (now (gw .entry)) i value ⌝ }
 {
     if c {
@@ -39,7 +39,7 @@ pub fn stability_grad(s: f32) -> f64
 }
 
 // clamp_grad(d, D_MIN, D_MAX)
-pub fn difficulty_grad(d: f32) -> f64
+pub(crate) fn difficulty_grad(d: f32) -> f64
     ensures { λ r. ⌜ r ≡ clampGrad d D_MIN D_MAX ⌝ }
 {
     pass(is_difficulty(d))

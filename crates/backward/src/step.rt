@@ -1,25 +1,22 @@
 // One step's reverse, through the branch that its record names.
 ghost use mathlib.Core.Path.{_≡_};
-ghost use Rattle.domain.specs.Weights.{_!_};
-ghost use Rattle.backward.specs.Stability.{shortBack, shortMoved};
-ghost use Rattle.backward.specs.Failure.{failureBack, failureMoved};
-ghost use Rattle.backward.specs.Success.{successBack, successMoved};
-ghost use Rattle.backward.specs.Own.{ownGrads, ownShort, ownFlow, ownMoved, alone};
-ghost use Rattle.backward.specs.Step.{carried, firstFlow, firstMoved, flowDef, flowMoved, recordCurve, stepGrad, stepMoved};
-use forward::stability::Branch;
+ghost use Rattle.backward.specs.Step.{carried, firstFlow, firstMoved, throughShort, throughLapse, throughSuccess};
+ghost use Rattle.backward.specs.Step.{thenShort, thenLapse, thenSuccess, flowDef, flowMoved, recordCurve, stepGrad, stepMoved};
+ghost use Rattle.backward.specs.inner.Own.{ownGrads, ownShort, ownFlow, ownMoved, alone};
 use crate::curve::curve_backward;
-use forward::curve::CurveCache;
 use crate::difficulty::backward_difficulty;
 use crate::difficulty::backward_init;
-use domain::floats::max;
 use crate::failure::backward_failure;
-use forward::step::StepRecord;
-use crate::stability::Grads;
-use crate::stability::backward_short;
-use forward::parameters::RuntimeParams;
+use crate::grads::Grads;
+use crate::short::backward_short;
 use crate::slots::difficulty_grad;
 use crate::slots::stability_grad;
 use crate::success::backward_success;
+use domain::floats::max;
+use forward::curve::CurveCache;
+use forward::parameters::RuntimeParams;
+use forward::state::Branch;
+use forward::state::StepRecord;
 
 // Gradients by a state's stability and difficulty.
 pub struct StateGrad {
@@ -40,7 +37,8 @@ fn carry(g_s: f64, g_d: f64, g_r: f64) -> Grads
 
 // A first review has no state before it.
 fn flow_first(p: RuntimeParams, rating: u32, g_s: f64, g_d: f64, g_r: f64, gw: &mut [f64]) -> Grads
-    ensures { λ q. ⌜ (q ≡ firstFlow «g_r») × (now (gw .exit) ≡ firstMoved p rating «g_s» «g_d» (now (gw .entry))) ⌝ }
+    ensures { λ q. ⌜ (q ≡ firstFlow «g_r»)
+        × (now (gw .exit) ≡ firstMoved p rating «g_s» «g_d» (now (gw .entry))) ⌝ }
 {
     let w = p.w;
     backward_init(w[4], w[5], rating, g_s, g_d, gw);
@@ -61,7 +59,8 @@ fn flow_short(
     g_r: f64,
     gw: &mut [f64],
 ) -> Grads
-    ensures { λ q. ⌜ (q ≡ ownShort (shortBack (p .w ! 19) (c .last .s) raw value active «g_s») «g_r») × (now (gw .exit) ≡ shortMoved (p .w ! 17) (p .w ! 18) (c .last .s) (c .rating) raw active «g_s» (now (gw .entry))) ⌝ }
+    ensures { λ q. ⌜ (q ≡ ownShort (throughShort p c raw value active «g_s») «g_r»)
+        × (now (gw .exit) ≡ thenShort p c raw active «g_s» (now (gw .entry))) ⌝ }
 {
     let w = p.w;
     let last = c.last;
@@ -95,7 +94,8 @@ fn flow_lapse(
     g_r: f64,
     gw: &mut [f64],
 ) -> Grads
-    ensures { λ q. ⌜ (q ≡ ownGrads (failureBack p (c .last) (c .retrievability) raw floor floored «g_s») «g_r») × (now (gw .exit) ≡ failureMoved p (c .last) (c .retrievability) raw floor floored «g_s» (now (gw .entry))) ⌝ }
+    ensures { λ q. ⌜ (q ≡ ownGrads (throughLapse p c raw floor floored «g_s») «g_r»)
+        × (now (gw .exit) ≡ thenLapse p c raw floor floored «g_s» (now (gw .entry))) ⌝ }
 {
     let last = c.last;
     let g = backward_failure(p, last, c.retrievability, raw, floor, floored, g_s, gw);
@@ -107,7 +107,8 @@ fn flow_lapse(
 }
 
 fn flow_success(p: RuntimeParams, c: StepRecord, g_s: f64, g_r: f64, gw: &mut [f64]) -> Grads
-    ensures { λ q. ⌜ (q ≡ ownGrads (successBack p (c .last) (c .rating) (c .retrievability) «g_s») «g_r») × (now (gw .exit) ≡ successMoved p (c .last) (c .rating) (c .retrievability) «g_s» (now (gw .entry))) ⌝ }
+    ensures { λ q. ⌜ (q ≡ ownGrads (throughSuccess p c «g_s») «g_r»)
+        × (now (gw .exit) ≡ thenSuccess p c «g_s» (now (gw .entry))) ⌝ }
 {
     let last = c.last;
     let rating = c.rating;
@@ -120,7 +121,8 @@ fn flow_success(p: RuntimeParams, c: StepRecord, g_s: f64, g_r: f64, gw: &mut [f
 }
 
 fn own_flow(p: RuntimeParams, c: StepRecord, g_s: f64, g_d: f64, g_r: f64, gw: &mut [f64]) -> Grads
-    ensures { λ q. ⌜ (q ≡ ownFlow p c (c .branch) «g_s» «g_d» «g_r») × (now (gw .exit) ≡ ownMoved p c (c .branch) «g_s» «g_d» (now (gw .entry))) ⌝ }
+    ensures { λ q. ⌜ (q ≡ ownFlow p c (c .branch) «g_s» «g_d» «g_r»)
+        × (now (gw .exit) ≡ ownMoved p c (c .branch) «g_s» «g_d» (now (gw .entry))) ⌝ }
 {
     let branch = c.branch;
     match branch {
@@ -164,7 +166,8 @@ fn is_alone(branch: Branch) -> bool
 
 // The difficulty comes last in each branch: one call for all of them is one that the compiler inlines.
 fn flow(p: RuntimeParams, c: StepRecord, g_s: f64, g_d: f64, g_r: f64, gw: &mut [f64]) -> Grads
-    ensures { λ q. ⌜ (q ≡ flowDef p c (c .branch) «g_s» «g_d» «g_r») × (now (gw .exit) ≡ flowMoved p c (c .branch) «g_s» «g_d» (now (gw .entry))) ⌝ }
+    ensures { λ q. ⌜ (q ≡ flowDef p c (c .branch) «g_s» «g_d» «g_r»)
+        × (now (gw .exit) ≡ flowMoved p c (c .branch) «g_s» «g_d» (now (gw .entry))) ⌝ }
 {
     let branch = c.branch;
     let g = own_flow(p, c, g_s, g_d, g_r, gw);
@@ -209,7 +212,8 @@ pub fn step_backward(
     g_r_extra: f64,
     gw: &mut [f64],
 ) -> StateGrad
-    ensures { λ q. ⌜ (q ≡ stepGrad p c «g_out_s» «g_out_d» «g_r_extra») × (now (gw .exit) ≡ stepMoved p c «g_out_s» «g_out_d» «g_r_extra» (now (gw .entry))) ⌝ }
+    ensures { λ q. ⌜ (q ≡ stepGrad p c «g_out_s» «g_out_d» «g_r_extra»)
+        × (now (gw .exit) ≡ stepMoved p c «g_out_s» «g_out_d» «g_r_extra» (now (gw .entry))) ⌝ }
 {
     let state = c.state;
     let pass_s = stability_grad(state.s);

@@ -1,16 +1,15 @@
-// analytic_v6.rs, backward: the reverse of a success.
+// The reverse of a success.
 ghost use mathlib.Core.Path.{_≡_};
-ghost use Rattle.kernels.specs.Calls.{ln64};
 ghost use Rattle.backward.specs.Success.{successParts, successSlots, successGrads, successBack, successMoved};
-use forward::stability::State;
-use domain::floats::choose;
-use kernels::exp::exp_f64;
-use crate::stability::Grads;
-use crate::stability::no_grads;
-use kernels::both::pow_ln_f64;
-use forward::parameters::RuntimeParams;
+use crate::grads::Grads;
+use crate::grads::no_grads;
 use crate::slots::add;
 use crate::slots::add_if;
+use domain::floats::choose;
+use forward::parameters::RuntimeParams;
+use forward::state::State;
+use kernels::exp::exp_f64;
+use kernels::pow_ln::pow_ln_f64;
 use std::num::f32_to_f64_with_nan;
 
 // What the slots and the gradients of a success share.
@@ -74,7 +73,6 @@ fn success_parts(
 }
 
 fn success_slots(c: SuccessParts, rating: f32, gw: &mut [f64])
-    requires { ⌜ c .«ln_s» ≡ ln64 (c .s) ⌝ }
     ensures { λ q. ⌜ now (gw .exit) ≡ successSlots c rating (now (gw .entry)) ⌝ }
 {
     let v8 = c.g_inc * c.inc;
@@ -107,7 +105,8 @@ pub fn backward_success(
     g: f64,
     gw: &mut [f64],
 ) -> Grads
-    ensures { λ q. ⌜ (q ≡ successBack p last rating r g) × (now (gw .exit) ≡ successMoved p last rating r g (now (gw .entry))) ⌝ }
+    ensures { λ q. ⌜ (q ≡ successBack p last rating r g)
+        × (now (gw .exit) ≡ successMoved p last rating r g (now (gw .entry))) ⌝ }
 {
     if g == 0.0 {
         return no_grads();

@@ -7,8 +7,8 @@ use native.Mathlib.Nat.{le-refl}
 use native.Mathlib.Omega.{arith}
 use Rattle.batch.specs.Words.{wordAt}
 use Rattle.batch.specs.Header.{sectionsOf, wellFormed}
-use Rattle.batch.specs.declared.headers.Header.{Header}
-use Rattle.batch.proofs.headers.Headers.{end-small, in-order}
+use Rattle.batch.specs.declared.header.Header.{Header}
+use Rattle.batch.proofs.layout.Headers.{end-small, in-order}
 use Rattle.batch.specs.File.{inOrder}
 
 module _ (file : List ℕ) (w : wellFormed file ≡ true) where

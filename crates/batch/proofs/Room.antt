@@ -12,7 +12,7 @@ use Rattle.checks.specs.Sizes.{most, longestDef}
 use Rattle.columns.specs.Records.{roomDef}
 use Rattle.batch.specs.Words.{wordAt}
 use Rattle.batch.specs.Header.{wellFormed, sectionsDef, sectionsOf, placed}
-use Rattle.batch.proofs.headers.Sizes.{left-of, rows-small}
+use Rattle.batch.proofs.layout.Sizes.{left-of, rows-small}
 use Rattle.batch.specs.File.{RECORDS, STEPS}
 
 either-of : (a b n : ℕ) (t : Bool) → a ≤ n → b ≤ n → cond t b a ≤ n

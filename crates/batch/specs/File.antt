@@ -8,10 +8,10 @@ use lib.ListN.{take, drop}
 use Rattle.domain.specs.Doubles.{zero64}
 use Rattle.batch.specs.Words.{words, singles}
 use Rattle.batch.specs.Header.{sectionsOf, wellFormed}
-use Rattle.batch.specs.declared.headers.Header.{Header}
+use Rattle.batch.specs.declared.header.Header.{Header}
 use Rattle.checks.specs.Batch.{Prefixes, Cards, prefixesOf, cardsOf}
-use Rattle.columns.specs.Ends.{answer}
-use Rattle.columns.specs.declared.ends.Loss.{Loss}
+use Rattle.analytic_v6.specs.Answers.{answer}
+use Rattle.analytic_v6.specs.declared.answers.Loss.{Loss}
 use Rattle.analytic_v6.specs.Prefixes.{batchLossAndGrad, batchSlots}
 use Rattle.analytic_v6.specs.Cards.{cardsLossAndGrad, cardsSlots}
 
@@ -22,7 +22,8 @@ part a e xs = take (e - a) (drop a xs)
 -- the sections follow one another within n words
 abbrev pub inOrder : (h : Header) (n : ℕ) → Type 0
 inOrder h n =
-    (h .weights ≤ h .days) × (h .days ≤ h .ratings) × (h .ratings ≤ h .lengths) × (h .lengths ≤ h .targets) × (h .targets ≤ h .labels) × (h .labels ≤ h .reviews) × (h .reviews ≤ h .end) × (h .end ≤ n)
+    (h .weights ≤ h .days) × (h .days ≤ h .ratings) × (h .ratings ≤ h .lengths) × (h .lengths ≤ h .targets) ×
+    (h .targets ≤ h .labels) × (h .labels ≤ h .reviews) × (h .reviews ≤ h .end) × (h .end ≤ n)
 
 -- the call's own records and step gradients have room for 512 rows, the most that a file has
 abbrev pub RECORDS : ℕ

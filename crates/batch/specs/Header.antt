@@ -5,7 +5,7 @@ use mathlib.Core.List.{List}
 use lib.Dec.{eqb, leb}
 use lib.ListN.{length}
 use Rattle.batch.specs.Words.{wordAt}
-use Rattle.batch.specs.declared.headers.Header.{Header}
+use Rattle.batch.specs.declared.header.Header.{Header}
 
 -- 'kind (1 prefix, 2 card)'
 unfoldable pub isKind : (kind : ℕ) → Bool
@@ -33,16 +33,30 @@ sectionsDef kind rows columns =
     let targets = lengths + columns in
     let labels = targets + targetCount kind columns in
     let reviews = labels + scores in
-    record { refusal = 0; kind = kind; rows = rows; columns = columns; weights = 10; days = 31; ratings = ratings; lengths = lengths; targets = targets; labels = labels; reviews = reviews; end = reviews + scores }
+    record {
+      refusal = 0;
+      kind = kind;
+      rows = rows;
+      columns = columns;
+      weights = 10;
+      days = 31;
+      ratings = ratings;
+      lengths = lengths;
+      targets = targets;
+      labels = labels;
+      reviews = reviews;
+      end = reviews + scores;
+    }
 
 -- the header's i-th word is the byte offset of the word k
-unfoldable pub at : (file : List ℕ) (i k : ℕ) → Bool
-at file i k = eqb (wordAt file i) (4 * k)
+unfoldable pub offsetIs : (file : List ℕ) (i k : ℕ) → Bool
+offsetIs file i k = eqb (wordAt file i) (4 * k)
 
 -- 'then byte offsets of weights, days, ratings, lengths, target days, labels, review weights', and nothing after the last section
 unfoldable pub placed : (file : List ℕ) (h : Header) → Bool
 placed file h =
-    ((at file 3 (h .weights) && eqb (length file) (4 * h .end)) && (at file 4 (h .days) && at file 5 (h .ratings))) && ((at file 6 (h .lengths) && at file 7 (h .targets)) && (at file 8 (h .labels) && at file 9 (h .reviews)))
+    ((offsetIs file 3 (h .weights) && eqb (length file) (4 * h .end)) && (offsetIs file 4 (h .days) && offsetIs file 5 (h .ratings))) &&
+    ((offsetIs file 6 (h .lengths) && offsetIs file 7 (h .targets)) && (offsetIs file 8 (h .labels) && offsetIs file 9 (h .reviews)))
 
 -- its sections by its first three words
 abbrev pub sectionsOf : (file : List ℕ) → Header
@@ -52,7 +66,21 @@ unfoldable pub wellFormed : (file : List ℕ) → Bool
 wellFormed file = sized (wordAt file 0) (wordAt file 1) (length file) && placed file (sectionsOf file)
 
 unfoldable pub malformedDef : Header
-malformedDef = record { refusal = 11; kind = 0; rows = 0; columns = 0; weights = 0; days = 0; ratings = 0; lengths = 0; targets = 0; labels = 0; reviews = 0; end = 0 }
+malformedDef =
+    record {
+      refusal = 11;
+      kind = 0;
+      rows = 0;
+      columns = 0;
+      weights = 0;
+      days = 0;
+      ratings = 0;
+      lengths = 0;
+      targets = 0;
+      labels = 0;
+      reviews = 0;
+      end = 0;
+    }
 
 -- 'Anything else is 11.'
 unfoldable pub headerDef : (file : List ℕ) → Header

@@ -1,18 +1,21 @@
 // A batch file, run as the one call that it holds.
-pub mod words;
-pub mod headers;
+pub mod header;
+mod layout;
+mod words;
+
 ghost use mathlib.Core.Path.{_≡_};
 ghost use Prim.Native.Nat.{_≤_};
 ghost use lib.ListN.{length};
 ghost use Rattle.batch.specs.Words.{words, singles};
-ghost use Rattle.batch.specs.File.{RECORDS, STEPS, inOrder, prefixLossIn, prefixSlotsIn, cardLossIn, cardSlotsIn, callLoss, callSlots, fileLoss, fileSlots};
-use analytic_v6::cards::grad::card_loss_and_grad;
-use columns::ends::Loss;
-use crate::headers::Header;
-use crate::headers::header_of;
-use analytic_v6::prefixes::grad::batch_loss_and_grad;
+ghost use Rattle.batch.specs.File.{RECORDS, STEPS, inOrder, prefixLossIn, prefixSlotsIn};
+ghost use Rattle.batch.specs.File.{cardLossIn, cardSlotsIn, callLoss, callSlots, fileLoss, fileSlots};
+use crate::header::Header;
+use crate::layout::header_of;
 use crate::words::fill_singles;
 use crate::words::fill_words;
+use analytic_v6::answers::Loss;
+use analytic_v6::cards::grad::card_loss_and_grad;
+use analytic_v6::prefixes::grad::batch_loss_and_grad;
 
 // Words in the longest file.
 const WORDS: usize = 16384;
@@ -25,7 +28,9 @@ const STEPS: usize = 512;
 
 fn run_prefixes(h: Header, cells: &[f32], lens: &[u32], gw: &mut [f64], records: &mut [f32]) -> Loss
     requires { ⌜ (inOrder h (length (now cells))) × (length (now records) ≡ RECORDS) ⌝ }
-    ensures { λ r. ⌜ (r ≡ prefixLossIn h (now (cells .entry)) (now (lens .entry)) (length (now (gw .entry)))) × (now (gw .exit) ≡ prefixSlotsIn h (now (cells .entry)) (now (lens .entry)) (now (gw .entry))) ⌝ }
+    ensures { λ r. ⌜
+        (r ≡ prefixLossIn h (now (cells .entry)) (now (lens .entry)) (length (now (gw .entry)))) ×
+        (now (gw .exit) ≡ prefixSlotsIn h (now (cells .entry)) (now (lens .entry)) (now (gw .entry))) ⌝ }
 {
     let weights = h.weights;
     let days = h.days;
@@ -59,7 +64,9 @@ fn run_cards(
     step_grads: &mut [f64],
 ) -> Loss
     requires { ⌜ (inOrder h (length (now cells))) × (length (now records) ≡ RECORDS) × (length (now «step_grads») ≡ STEPS) ⌝ }
-    ensures { λ r. ⌜ (r ≡ cardLossIn h (now (cells .entry)) (now (lens .entry)) (length (now (gw .entry)))) × (now (gw .exit) ≡ cardSlotsIn h (now (cells .entry)) (now (lens .entry)) (now (gw .entry))) ⌝ }
+    ensures { λ r. ⌜
+        (r ≡ cardLossIn h (now (cells .entry)) (now (lens .entry)) (length (now (gw .entry)))) ×
+        (now (gw .exit) ≡ cardSlotsIn h (now (cells .entry)) (now (lens .entry)) (now (gw .entry))) ⌝ }
 {
     let weights = h.weights;
     let days = h.days;
@@ -94,7 +101,11 @@ fn run_call(
     step_grads: &mut [f64],
 ) -> Loss
     requires { ⌜ (inOrder h (length (now cells))) × (length (now records) ≡ RECORDS) × (length (now «step_grads») ≡ STEPS) ⌝ }
-    ensures { λ r. ⌜ (r ≡ callLoss h (singles (now (file .entry)) 0 (length (now (cells .entry)))) (words (now (file .entry)) (h .lengths) (length (now (lens .entry)))) (length (now (gw .entry)))) × (now (gw .exit) ≡ callSlots h (singles (now (file .entry)) 0 (length (now (cells .entry)))) (words (now (file .entry)) (h .lengths) (length (now (lens .entry)))) (now (gw .entry))) ⌝ }
+    ensures { λ r. ⌜
+        (r ≡ callLoss h (singles (now (file .entry)) 0 (length (now (cells .entry))))
+        (words (now (file .entry)) (h .lengths) (length (now (lens .entry)))) (length (now (gw .entry)))) ×
+        (now (gw .exit) ≡ callSlots h (singles (now (file .entry)) 0 (length (now (cells .entry))))
+        (words (now (file .entry)) (h .lengths) (length (now (lens .entry)))) (now (gw .entry))) ⌝ }
 {
     fill_singles(file, 0, cells);
     fill_words(file, h.lengths, lens);
@@ -113,8 +124,17 @@ fn run_sections(
     records: &mut [f32],
     step_grads: &mut [f64],
 ) -> Loss
-    requires { ⌜ (inOrder h (h .end)) × (h .end ≤ length (now cells)) × (h .columns ≤ length (now lens)) × (length (now records) ≡ RECORDS) × (length (now «step_grads») ≡ STEPS) ⌝ }
-    ensures { λ r. ⌜ (r ≡ callLoss h (singles (now (file .entry)) 0 (h .end)) (words (now (file .entry)) (h .lengths) (h .columns)) (length (now (gw .entry)))) × (now (gw .exit) ≡ callSlots h (singles (now (file .entry)) 0 (h .end)) (words (now (file .entry)) (h .lengths) (h .columns)) (now (gw .entry))) ⌝ }
+    requires { ⌜
+        (inOrder h (h .end)) ×
+        (h .end ≤ length (now cells)) ×
+        (h .columns ≤ length (now lens)) ×
+        (length (now records) ≡ RECORDS) ×
+        (length (now «step_grads») ≡ STEPS) ⌝ }
+    ensures { λ r. ⌜
+        (r ≡ callLoss h (singles (now (file .entry)) 0 (h .end)) (words (now (file .entry)) (h .lengths) (h .columns))
+        (length (now (gw .entry)))) ×
+        (now (gw .exit) ≡ callSlots h (singles (now (file .entry)) 0 (h .end))
+        (words (now (file .entry)) (h .lengths) (h .columns)) (now (gw .entry))) ⌝ }
 {
     let n = h.end;
     let m = h.columns as usize;
@@ -132,7 +152,9 @@ fn run_sections(
 // The loss of the call that the file holds, and its gradient, added to the 21 slots of gw. Refusal 11 where the file is
 // malformed; then those of the call. A refused file leaves gw as it was.
 pub fn run_file(file: &[u8], gw: &mut [f64]) -> Loss
-    ensures { λ r. ⌜ (r ≡ fileLoss (now (file .entry)) (length (now (gw .entry)))) × (now (gw .exit) ≡ fileSlots (now (file .entry)) (now (gw .entry))) ⌝ }
+    ensures { λ r. ⌜
+        (r ≡ fileLoss (now (file .entry)) (length (now (gw .entry)))) ×
+        (now (gw .exit) ≡ fileSlots (now (file .entry)) (now (gw .entry))) ⌝ }
 {
     let h = header_of(file);
     if h.refusal != 0 {

@@ -103,5 +103,9 @@ grad-accepted w slots sized room fault e =
     let d = first-zero (check true room 4) fault (c .1) in
     (a .0, check-zero slots 5 five (b .0), check-zero sized 3 three (c .0), check-zero room 4 four (d .0), d .1)
 
-pub loss-passed : (w : List Float) (sized : Bool) (fault : ℕ) → weightsRefusal w ≡ 0 → sized ≡ true → fault ≡ 0 → lossRefusal w sized fault ≡ 0
+loss-passed : (w : List Float) (sized : Bool) (fault : ℕ) → weightsRefusal w ≡ 0 → sized ≡ true → fault ≡ 0 → lossRefusal w sized fault ≡ 0
 loss-passed w sized fault a b c = sym (loss-fault w (weightsRefusal w) refl a sized fault b) ∙ c
+
+-- a call that is accepted with its gradient is accepted without it
+pub alone-accepted : (w : List Float) (slots sized room : Bool) (fault : ℕ) → gradRefusal w slots sized room fault ≡ 0 → lossRefusal w sized fault ≡ 0
+alone-accepted w slots sized room fault e = let a = grad-accepted w slots sized room fault e in loss-passed w sized fault (a .0) (a .2) (a .4)

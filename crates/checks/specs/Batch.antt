@@ -17,9 +17,24 @@ pub record Table : Type 0 where
 abbrev pub lengthAt : (t : Table) (column : ℕ) → ℕ
 lengthAt t column = cutAt (t .lengths) (t .rows) column
 
+-- 'a column is read through a view that takes every batch-th cell'
+abbrev pub view : (xs : List Float) (columns column row : ℕ) → Float
+view xs columns column row = xs ! cell columns row column
+
 -- the cell of any table of that shape
 abbrev pub at : (t : Table) (xs : List Float) (row column : ℕ) → Float
-at t xs row column = xs ! cell (t .columns) row column
+at t xs row column = view xs (t .columns) column row
+
+-- a column's days and ratings, as functions of the row
+pub record History : Type 0 where
+  pub day : ℕ → Float
+  pub rating : ℕ → Float
+
+abbrev pub historyOf : (days ratings : List Float) (columns column : ℕ) → History
+historyOf days ratings columns column = record { day = view days columns column; rating = view ratings columns column }
+
+abbrev pub history : (t : Table) (column : ℕ) → History
+history t column = historyOf (t .days) (t .ratings) (t .columns) column
 
 -- a prefix's target follows its history: delta_ts, labels, weights, one for each column
 pub record Prefixes : Type 0 where
@@ -33,6 +48,13 @@ pub record Cards : Type 0 where
   pub table : Table
   pub labels : List Float
   pub weights : List Float
+
+-- a card's labels and review weights, as functions of the row
+abbrev pub labelAt : (x : Cards) (column row : ℕ) → Float
+labelAt x column row = view (x .labels) (x .table .columns) column row
+
+abbrev pub weightAt : (x : Cards) (column row : ℕ) → Float
+weightAt x column row = view (x .weights) (x .table .columns) column row
 
 -- the arguments of an entry, in its order
 abbrev pub tableOf : (t-hist r-hist : List Float) (seq-len batch : ℕ) (seq-lens : List ℕ) → Table

@@ -1,4 +1,5 @@
--- The first fault among the cells that a loss call reads, with its place: 'columns ascending: 9, then rows ascending (rating, day, weight, label), then a prefix target (weight, label, day)'. Assumes nothing.
+-- The first fault among the cells that a loss call reads, with its place: 'columns ascending: 9, then rows ascending (rating, day,
+-- weight, label), then a prefix target (weight, label, day)'. Assumes nothing.
 use Prim.Native.Nat.{ℕ, zero, suc}
 use mathlib.Core.Bool.{cond}
 use mathlib.Core.List.{List}
@@ -6,9 +7,8 @@ use lib.Dec.{eqb}
 use lib.Ieee.{Float}
 use Rattle.domain.specs.Weights.{_!_}
 use Rattle.checks.specs.Reads.{prefixRow, cardRow, targetDef}
-use Rattle.checks.specs.Batch.{Table, Prefixes, Cards, lengthAt}
-use Rattle.checks.specs.Tables.{cell}
-use Rattle.checks.specs.declared.faults.place.Fault.{Fault}
+use Rattle.checks.specs.Batch.{History, Prefixes, Cards, lengthAt, history, labelAt, weightAt}
+use Rattle.checks.specs.declared.fault.Fault.{Fault}
 
 unfoldable pub noFault : Fault
 noFault = record { refusal = 0; column = 0; row = 0 }
@@ -26,9 +26,12 @@ unfoldable pub firstFault : (f : ℕ → Fault) (n : ℕ) → Fault
 firstFault f zero = noFault
 firstFault f (suc k) = orElse (firstFault f k) (f k)
 
-unfoldable pub prefixRows : (days ratings : List Float) (columns column n : ℕ) → Fault
-prefixRows days ratings columns column n =
-    firstFault (λ row. faultAt (prefixRow row (days ! cell columns row column) (ratings ! cell columns row column)) column row) n
+-- the first of n rows of a column that is bad: `bad` has each row's number
+unfoldable pub rowsFault : (bad : ℕ → ℕ) (column n : ℕ) → Fault
+rowsFault bad column n = firstFault (λ row. faultAt (bad row) column row) n
+
+abbrev pub prefixRows : (h : History) (column n : ℕ) → Fault
+prefixRows h column n = rowsFault (λ row. prefixRow row (h .day row) (h .rating row)) column n
 
 -- its row is the cut length
 unfoldable pub targetFault : (days labels weights : List Float) (column n : ℕ) → Fault
@@ -40,20 +43,17 @@ prefixColumn x column =
     let n = lengthAt t column in
     cond (eqb n 0)
     (record { refusal = 9; column = column; row = 0 })
-    (orElse (prefixRows (t .days) (t .ratings) (t .columns) column n) (targetFault (x .days) (x .labels) (x .weights) column n))
+    (orElse (prefixRows (history t column) column n) (targetFault (x .days) (x .labels) (x .weights) column n))
 
 unfoldable pub prefixFault : Prefixes → Fault
 prefixFault x = firstFault (prefixColumn x) (x .table .columns)
 
-unfoldable pub cardRows : (days ratings : List Float) (columns : ℕ) (labels weights : List Float) (column n : ℕ) → Fault
-cardRows days ratings columns labels weights column n =
-    firstFault
-    (λ row. let k = cell columns row column in faultAt (cardRow n row (days ! k) (ratings ! k) (weights ! k) (labels ! k)) column row)
-    n
+abbrev pub cardRows : (h : History) (label weight : ℕ → Float) (column n : ℕ) → Fault
+cardRows h label weight column n =
+    rowsFault (λ row. cardRow n row (h .day row) (h .rating row) (weight row) (label row)) column n
 
 unfoldable pub cardColumn : (x : Cards) (column : ℕ) → Fault
-cardColumn x column =
-    let t = x .table in cardRows (t .days) (t .ratings) (t .columns) (x .labels) (x .weights) column (lengthAt t column)
+cardColumn x column = cardRows (history (x .table) column) (labelAt x column) (weightAt x column) column (lengthAt (x .table) column)
 
 unfoldable pub cardFault : Cards → Fault
 cardFault x = firstFault (cardColumn x) (x .table .columns)

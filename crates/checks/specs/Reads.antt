@@ -1,4 +1,5 @@
--- Document 01, 'Which cells and weights are read' and 'Domain': the cells of one row that count as read, and which of their values are good. The checks and demand 3 share this page. Assumes nothing.
+-- Document 01, 'Which cells and weights are read' and 'Domain': the cells of one row that count as read, and which of their values
+-- are good. The checks and demand 3 share this page. Assumes nothing.
 use Prim.Native.Nat.{ℕ, suc}
 use mathlib.Core.Bool.{Bool, true, not, _&&_, _||_, cond}
 use lib.Dec.{eqb}

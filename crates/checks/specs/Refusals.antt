@@ -24,7 +24,9 @@ longestOf t = longestDef (t .lengths) (t .rows) (t .columns)
 
 abbrev pub prefixesSized : Prefixes → Bool
 prefixesSized x =
-    prefixSized (length (x .table .days)) (length (x .table .ratings)) (x .table .rows) (x .table .columns) (length (x .table .lengths)) (length (x .days)) (length (x .labels)) (length (x .weights))
+    let t = x .table in
+    prefixSized (length (t .days)) (length (t .ratings)) (t .rows) (t .columns) (length (t .lengths))
+    (length (x .days)) (length (x .labels)) (length (x .weights))
 
 unfoldable pub prefixLossRefusal : (w : List Float) (x : Prefixes) → ℕ
 prefixLossRefusal w x = lossRefusal w (prefixesSized x) (prefixFault x .refusal)
@@ -36,7 +38,8 @@ prefixGradRefusal w x slots records =
 
 abbrev pub cardsSized : Cards → Bool
 cardsSized x =
-    cardSized (length (x .table .days)) (length (x .table .ratings)) (x .table .rows) (x .table .columns) (length (x .table .lengths)) (length (x .labels)) (length (x .weights))
+    let t = x .table in
+    cardSized (length (t .days)) (length (t .ratings)) (t .rows) (t .columns) (length (t .lengths)) (length (x .labels)) (length (x .weights))
 
 unfoldable pub cardLossRefusal : (w : List Float) (x : Cards) → ℕ
 cardLossRefusal w x = lossRefusal w (cardsSized x) (cardFault x .refusal)

@@ -1,4 +1,5 @@
--- Refusals 3 and 4: 'rows or columns over limit, or an input slice shorter than its table or column count', and the longest cut length. Assumes nothing.
+-- Refusals 3 and 4: 'rows or columns over limit, or an input slice shorter than its table or column count', and the longest cut
+-- length. Assumes nothing.
 use Prim.Native.Nat.{ℕ, zero, suc, _*_}
 use mathlib.Core.Bool.{Bool, _&&_, cond}
 use mathlib.Core.List.{List}

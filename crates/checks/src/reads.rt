@@ -1,21 +1,17 @@
 // Which cells of a row are read, and which of their values are good: the number of the first bad one that is read, in the
 // order rating, day, weight, label. A cell that is not read is not asked about.
 ghost use mathlib.Core.Path.{_≡_};
-ghost use mathlib.Core.Bool.{not, _||_, cond};
+ghost use mathlib.Core.Bool.{not, cond};
 ghost use lib.Ieee.{eq};
 ghost use Rattle.domain.specs.Limits.{zero32};
-ghost use Rattle.checks.specs.Reads.{ratingGood, weightGood, labelGood, later, isLast, nonZero, prefixDay, cardDay, cardLabel, check, first, prefixRow, cardScore, cardRow, targetDef};
-use domain::floats::both;
+ghost use Rattle.checks.specs.Reads.{ratingGood, weightGood, labelGood, later, isLast, nonZero, prefixDay};
+ghost use Rattle.checks.specs.Reads.{cardDay, cardLabel, check, first, prefixRow, cardScore, cardRow, targetDef};
 use domain::floats::is_within;
 use domain::limits::is_day;
+use soft::flags::both;
+use soft::flags::either;
 
 const WEIGHT_MAX: f32 = 1000000.0;
-
-pub fn either(a: bool, b: bool) -> bool
-    ensures { λ r. ⌜ r ≡ (a || b) ⌝ }
-{
-    if a { true } else { b }
-}
 
 // 0, 1, 2, 3 or 4; a zero of either sign is zero.
 pub fn is_rating(rating: f32) -> bool
@@ -77,7 +73,7 @@ fn first(a: u32, b: u32) -> u32
 }
 
 // 6, 7 or 0.
-pub fn prefix_row(row: u32, day: f32, rating: f32) -> u32
+pub(crate) fn prefix_row(row: u32, day: f32, rating: f32) -> u32
     ensures { λ r. ⌜ r ≡ prefixRow row day rating ⌝ }
 {
     let day_read = both(is_later(row), is_nonzero(rating));
@@ -109,7 +105,7 @@ fn card_score(row: u32, weight: f32, label: f32) -> u32
 }
 
 // 6, 7, 8 or 0, in a card of n rows.
-pub fn card_row(n: u32, row: u32, day: f32, rating: f32, weight: f32, label: f32) -> u32
+pub(crate) fn card_row(n: u32, row: u32, day: f32, rating: f32, weight: f32, label: f32) -> u32
     ensures { λ r. ⌜ r ≡ cardRow n row day rating weight label ⌝ }
 {
     let rating_bad = check(!is_last(n, row), is_rating(rating), 6);
@@ -118,7 +114,7 @@ pub fn card_row(n: u32, row: u32, day: f32, rating: f32, weight: f32, label: f32
 }
 
 // A prefix's target: weight, label, day; the last two only if the weight counts.
-pub fn target_row(weight: f32, label: f32, day: f32) -> u32
+pub(crate) fn target_row(weight: f32, label: f32, day: f32) -> u32
     ensures { λ r. ⌜ r ≡ targetDef weight label day ⌝ }
 {
     let counts = is_nonzero(weight);

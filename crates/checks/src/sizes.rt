@@ -1,9 +1,9 @@
 // Rows, columns, slices and room: what refusals 3 and 4 ask.
 ghost use mathlib.Core.Path.{_≡_};
 ghost use Rattle.checks.specs.Sizes.{most, longestDef, tableSized, prefixSized, cardSized};
-use domain::floats::both;
 use crate::tables::cut_length;
 use crate::tables::table_cells;
+use soft::flags::both;
 
 pub const MAX_ROWS: u32 = 2048;
 

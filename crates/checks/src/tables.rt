@@ -9,7 +9,7 @@ ghost use Rattle.domain.specs.Weights.{_!_};
 ghost use Rattle.domain.specs.Doubles.{zero64};
 ghost use Rattle.checks.specs.Tables.{cell, cutAt};
 
-pub fn table_cells(rows: u32, columns: u32) -> usize
+pub(crate) fn table_cells(rows: u32, columns: u32) -> usize
     ensures { λ r. ⌜ r ≡ rows * columns ⌝ }
 {
     rows as usize * columns as usize

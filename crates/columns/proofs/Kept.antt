@@ -11,63 +11,64 @@ use lib.Ieee.{Float}
 use lib.ListN.{getD, length, length-set, set}
 use lib.Seq.{getD-set-same, getD-set-other}
 use Rattle.domain.specs.Doubles.{zero64}
+use Rattle.checks.specs.Batch.{History}
 use Rattle.forward.specs.declared.parameters.RuntimeParams.{RuntimeParams}
-use Rattle.forward.specs.declared.step.StepRecord.{StepRecord}
+use Rattle.forward.specs.declared.state.StepRecord.{StepRecord}
 use Rattle.columns.specs.Records.{roomDef, storeDef, loadDef}
 use Rattle.columns.proofs.records.ReadBack.{step-read}
 use Rattle.columns.proofs.records.Stored.{stored-length, stored-read, others-kept}
 use Rattle.backward.specs.Step.{stepGrad, stepMoved}
 use Rattle.backward.specs.declared.step.StateGrad.{StateGrad}
-use Rattle.columns.specs.Back.{backDef}
-use Rattle.columns.specs.Path.{stepAt, stateAt, recordAt, storedDef, scoreAt, gradsDef}
+use Rattle.columns.specs.BackwardPass.{backDef}
+use Rattle.columns.specs.ForwardPass.{stepAt, stateAt, recordAt, storedDef, scoreAt, gradsDef}
 
-module _ (p : RuntimeParams) (days ratings : List Float) (columns column : ℕ) where
-  pub path-length : (n : ℕ) (xs : List Float) → length (storedDef p days ratings columns column n xs) ≡ length xs
+module _ (p : RuntimeParams) (hist : History) where
+  pub path-length : (n : ℕ) (xs : List Float) → length (storedDef p hist n xs) ≡ length xs
   unfolding storedDef
   path-length zero xs = refl
   path-length (suc n) xs = stored-length n _ _ ∙ path-length n xs
 
   record-read : (row : ℕ) (xs : List Float) → row < roomDef (length xs) →
-      loadDef row (storeDef row (recordAt p days ratings columns column row) xs) ≡ recordAt p days ratings columns column row
+      loadDef row (storeDef row (recordAt p hist row) xs) ≡ recordAt p hist row
   unfolding recordAt stepAt
   record-read row xs l = stored-read row _ xs l ∙ step-read p _ _ _ row
 
-  room-kept : (n k : ℕ) (xs : List Float) → k < roomDef (length xs) → k < roomDef (length (storedDef p days ratings columns column n xs))
+  room-kept : (n k : ℕ) (xs : List Float) → k < roomDef (length xs) → k < roomDef (length (storedDef p hist n xs))
   room-kept n k xs h = subst (λ (m : ℕ). k < roomDef m) (sym (path-length n xs)) h
 
   path-turn :
-      (n i : ℕ) (xs : List Float) → n < roomDef (length xs) → i < suc n → (i < n → loadDef i (storedDef p days ratings columns column n xs) ≡ recordAt p days ratings columns column i) → (b : Bool) → b ≡ leb n i →
-      loadDef i (storeDef n (recordAt p days ratings columns column n) (storedDef p days ratings columns column n xs)) ≡ recordAt p days ratings columns column i
+      (n i : ℕ) (xs : List Float) → n < roomDef (length xs) → i < suc n → (i < n → loadDef i (storedDef p hist n xs) ≡ recordAt p hist i) → (b : Bool) → b ≡ leb n i →
+      loadDef i (storeDef n (recordAt p hist n) (storedDef p hist n xs)) ≡ recordAt p hist i
   path-turn n i xs l h before true e =
       let same : n ≡ i = omega (arith, leb-true n i (sym e), h) in
-      subst (λ (k : ℕ). loadDef k (storeDef n (recordAt p days ratings columns column n) (storedDef p days ratings columns column n xs)) ≡ recordAt p days ratings columns column k) same (record-read n (storedDef p days ratings columns column n xs) (room-kept n n xs l))
+      subst (λ (k : ℕ). loadDef k (storeDef n (recordAt p hist n) (storedDef p hist n xs)) ≡ recordAt p hist k) same (record-read n (storedDef p hist n xs) (room-kept n n xs l))
   path-turn n i xs l h before false e =
       let less = leb-false n i (sym e) in
-      others-kept n _ (storedDef p days ratings columns column n xs) (room-kept n n xs l) i (room-kept n i xs (lt-of-lt-of-le less (le-of-lt l))) (ne-of-lt less) ∙ before less
+      others-kept n _ (storedDef p hist n xs) (room-kept n n xs l) i (room-kept n i xs (lt-of-lt-of-le less (le-of-lt l))) (ne-of-lt less) ∙ before less
 
   -- row i of the first n rows
-  pub path-read : (n i : ℕ) (xs : List Float) → n ≤ roomDef (length xs) → i < n → loadDef i (storedDef p days ratings columns column n xs) ≡ recordAt p days ratings columns column i
+  pub path-read : (n i : ℕ) (xs : List Float) → n ≤ roomDef (length xs) → i < n → loadDef i (storedDef p hist n xs) ≡ recordAt p hist i
   unfolding storedDef
   path-read zero i xs l h = absurd (not-suc-le-zero h)
   path-read (suc n) i xs l h = path-turn n i xs l h (path-read n i xs (le-of-lt l)) (leb n i) refl
 
-  module _ (labels weights : List Float) where
-    pub grads-length : (n : ℕ) (xs : List Float) → length (gradsDef p days ratings columns column labels weights n xs) ≡ length xs
+  module _ (label weight : ℕ → Float) where
+    pub grads-length : (n : ℕ) (xs : List Float) → length (gradsDef p hist label weight n xs) ≡ length xs
     unfolding gradsDef
     grads-length zero xs = refl
-    grads-length (suc n) xs = length-set (gradsDef p days ratings columns column labels weights n xs) n _ ∙ grads-length n xs
+    grads-length (suc n) xs = length-set (gradsDef p hist label weight n xs) n _ ∙ grads-length n xs
 
     grads-turn :
-        (n i : ℕ) (xs : List Float) → n < length xs → i < suc n → (i < n → getD (gradsDef p days ratings columns column labels weights n xs) i zero64 ≡ scoreAt p days ratings columns column labels weights i .«g_r») → (b : Bool) → b ≡ leb n i →
-        getD (set (gradsDef p days ratings columns column labels weights n xs) n (scoreAt p days ratings columns column labels weights n .«g_r»)) i zero64 ≡ scoreAt p days ratings columns column labels weights i .«g_r»
+        (n i : ℕ) (xs : List Float) → n < length xs → i < suc n → (i < n → getD (gradsDef p hist label weight n xs) i zero64 ≡ scoreAt p hist label weight i .«g_r») → (b : Bool) → b ≡ leb n i →
+        getD (set (gradsDef p hist label weight n xs) n (scoreAt p hist label weight n .«g_r»)) i zero64 ≡ scoreAt p hist label weight i .«g_r»
     grads-turn n i xs l h before true e =
         let same : n ≡ i = omega (arith, leb-true n i (sym e), h) in
-        subst (λ (k : ℕ). getD (set (gradsDef p days ratings columns column labels weights n xs) n (scoreAt p days ratings columns column labels weights n .«g_r»)) k zero64 ≡ scoreAt p days ratings columns column labels weights k .«g_r») same
-        (getD-set-same (gradsDef p days ratings columns column labels weights n xs) n _ zero64 (subst (λ (m : ℕ). n < m) (sym (grads-length n xs)) l))
+        subst (λ (k : ℕ). getD (set (gradsDef p hist label weight n xs) n (scoreAt p hist label weight n .«g_r»)) k zero64 ≡ scoreAt p hist label weight k .«g_r») same
+        (getD-set-same (gradsDef p hist label weight n xs) n _ zero64 (subst (λ (m : ℕ). n < m) (sym (grads-length n xs)) l))
     grads-turn n i xs l h before false e =
-        let less = leb-false n i (sym e) in getD-set-other (gradsDef p days ratings columns column labels weights n xs) n i _ zero64 (ne-of-lt less) ∙ before less
+        let less = leb-false n i (sym e) in getD-set-other (gradsDef p hist label weight n xs) n i _ zero64 (ne-of-lt less) ∙ before less
 
-    pub grads-read : (n i : ℕ) (xs : List Float) → n ≤ length xs → i < n → getD (gradsDef p days ratings columns column labels weights n xs) i zero64 ≡ scoreAt p days ratings columns column labels weights i .«g_r»
+    pub grads-read : (n i : ℕ) (xs : List Float) → n ≤ length xs → i < n → getD (gradsDef p hist label weight n xs) i zero64 ≡ scoreAt p hist label weight i .«g_r»
     unfolding gradsDef
     grads-read zero i xs l h = absurd (not-suc-le-zero h)
     grads-read (suc n) i xs l h = grads-turn n i xs l h (grads-read n i xs (le-of-lt l)) (leb n i) refl

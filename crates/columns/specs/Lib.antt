@@ -1,5 +1,5 @@
-pub mod Back
-pub mod Ends
-pub mod Path
+pub mod BackwardPass
+pub mod ForwardPass
+pub mod LastReview
 pub mod Records
 pub mod Scores

@@ -1,4 +1,5 @@
--- Step records as plain columns of singles: where each number stands, what a stored record leaves in the slice, and what is read back. Assumes nothing.
+-- Step records as plain columns of singles: where each number stands, what a stored record leaves in the slice, and what is read
+-- back. Assumes nothing.
 use Prim.Native.Nat.{ℕ, suc, _+_, _*_, _/_}
 use mathlib.Core.Bool.{Bool, true, false, cond}
 use mathlib.Core.List.{List, [], _∷_}
@@ -8,10 +9,10 @@ use lib.ListN.{length, set}
 use Rattle.domain.specs.Limits.{decimal, zero32, one, two, three, four}
 use Rattle.domain.specs.Weights.{_!_}
 use Rattle.forward.specs.Step.{clampState, ratingNumber}
-use Rattle.forward.specs.declared.stability.Branch.{Branch}
-use Rattle.forward.specs.declared.stability.Branch.the-variants.{Padding, First, SameDay, Lapse, Success}
-use Rattle.forward.specs.declared.stability.State.{State}
-use Rattle.forward.specs.declared.step.StepRecord.{StepRecord}
+use Rattle.forward.specs.declared.state.Branch.{Branch}
+use Rattle.forward.specs.declared.state.Branch.the-variants.{Padding, First, SameDay, Lapse, Success}
+use Rattle.forward.specs.declared.state.State.{State}
+use Rattle.forward.specs.declared.state.StepRecord.{StepRecord}
 use Rattle.columns.specs.declared.records.BranchCells.{BranchCells}
 
 -- ten columns of equal length: how many rows each has
@@ -39,7 +40,8 @@ plainCells number = record { number = number; a = zero32; b = zero32 }
 unfoldable pub chosenCells : (first : Bool) (x y a b : Float) → BranchCells
 chosenCells first x y a b = record { number = cond first x y; a = a; b = b }
 
--- 0 padding, 1 first, 2 same-day with the raw multiplier, 3 with the 1, 4 lapse with the raw value, 5 with the floor, 6 success; and the two numbers of a branch that has them
+-- 0 padding, 1 first, 2 same-day with the raw multiplier, 3 with the 1, 4 lapse with the raw value, 5 with the floor, 6 success;
+-- and the two numbers of a branch that has them
 unfoldable pub branchCells : Branch → BranchCells
 branchCells Padding = plainCells zero32
 branchCells (First rating) = plainCells one
@@ -57,8 +59,8 @@ branchOf number rating a b =
     (cond (eq number five) (Lapse a b true) Success)))))
 
 -- columns 0 to 6; the clamped state is worked out again when a record is read
-unfoldable pub values : StepRecord → List Float
-values c = c .state .s ∷ c .state .d ∷ c .day ∷ c .rating ∷ c .retrievability ∷ c .«pre_s» ∷ c .«pre_d» ∷ []
+unfoldable pub stepValues : StepRecord → List Float
+stepValues c = c .state .s ∷ c .state .d ∷ c .day ∷ c .rating ∷ c .retrievability ∷ c .«pre_s» ∷ c .«pre_d» ∷ []
 
 -- columns 7 to 9
 unfoldable pub branchValues : Branch → List Float
@@ -70,7 +72,7 @@ putAll cells row field [] xs = xs
 putAll cells row field (x ∷ given) xs = putAll cells row (suc field) given (set xs (place cells field row) x)
 
 unfoldable pub storeDef : (row : ℕ) (c : StepRecord) (xs : List Float) → List Float
-storeDef row c xs = putAll (length xs) row 7 (branchValues (c .branch)) (putAll (length xs) row 0 (values c) xs)
+storeDef row c xs = putAll (length xs) row 7 (branchValues (c .branch)) (putAll (length xs) row 0 (stepValues c) xs)
 
 unfoldable pub loadBranch : (cells row : ℕ) (rating : Float) (xs : List Float) → Branch
 loadBranch cells row rating xs = branchOf (xs ! place cells 7 row) rating (xs ! place cells 8 row) (xs ! place cells 9 row)

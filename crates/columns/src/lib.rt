@@ -1,9 +1,6 @@
-pub mod scores;
-pub mod ends;
+// One column of a batch: its rows forward, its last review, its records, and its rows backward.
+pub mod backward_pass;
+pub mod forward_pass;
+pub mod last_review;
 pub mod records;
-// One column of a batch, forward over its rows: the states alone (`path`), and the scores of a card (`scored`).
-pub mod path;
-pub mod scored;
-pub mod stored_path;
-pub mod stored_scores;
-pub mod reverse_walk;
+pub mod scores;

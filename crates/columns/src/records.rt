@@ -4,15 +4,16 @@ ghost use mathlib.Core.Path.{_≡_};
 ghost use Prim.Native.Nat.{_<_};
 ghost use lib.ListN.{length, set};
 ghost use Rattle.domain.specs.Weights.{_!_};
-ghost use Rattle.columns.specs.Records.{place, plainCells, chosenCells, branchCells, branchOf, values, branchValues, putAll, storeDef, loadBranch, loadDef, roomDef};
-use forward::stability::Branch;
-use forward::stability::State;
-use domain::floats::choose;
-use forward::step::StepRecord;
-use forward::step::clamp_state;
-use forward::step::rating_number;
+ghost use Rattle.columns.specs.Records.{place, plainCells, chosenCells, branchCells, branchOf, stepValues};
+ghost use Rattle.columns.specs.Records.{branchValues, putAll, storeDef, loadBranch, loadDef, roomDef};
 use checks::tables::read;
 use checks::tables::write;
+use domain::floats::choose;
+use forward::state::Branch;
+use forward::state::State;
+use forward::state::StepRecord;
+use forward::step::clamp_state;
+use forward::step::rating_number;
 
 // A branch and its two numbers, +0.0 where it has none.
 struct BranchCells {
@@ -126,7 +127,7 @@ fn branch_of(number: f32, rating: f32, a: f32, b: f32) -> Branch
 }
 
 fn store_values(records: &mut [f32], cells: usize, row: u32, step: StepRecord)
-    ensures { λ r. ⌜ now (records .exit) ≡ putAll cells row 0 (values step) (now (records .entry)) ⌝ }
+    ensures { λ r. ⌜ now (records .exit) ≡ putAll cells row 0 (stepValues step) (now (records .entry)) ⌝ }
 {
     let state = step.state;
     let s = state.s;
@@ -176,7 +177,7 @@ fn load_branch(records: &[f32], cells: usize, row: u32, rating: f32) -> Branch
 }
 
 // The clamped state is worked out again.
-pub fn load_step(records: &[f32], row: u32) -> StepRecord
+pub(crate) fn load_step(records: &[f32], row: u32) -> StepRecord
     ensures { λ r. ⌜ r ≡ loadDef row (now (records .entry)) ⌝ }
 {
     let cells = records.len();

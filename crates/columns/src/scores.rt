@@ -85,7 +85,7 @@ fn passed(inside: bool, grad: f32) -> f64
 }
 
 // A weight of 0, of either sign, ends its item.
-pub fn bce_loss_and_grad_r(r_raw: f32, label: f32, weight: f32) -> Score
+pub(crate) fn bce_loss_and_grad_r(r_raw: f32, label: f32, weight: f32) -> Score
     ensures { λ r. ⌜ r ≡ scoreDef «r_raw» label weight ⌝ }
 {
     if weight == 0.0 {

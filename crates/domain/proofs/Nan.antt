@@ -1,6 +1,6 @@
 -- x != x exactly where x is a NaN. Assumes nothing.
-use mathlib.Core.Path.{_≡_, refl}
 use mathlib.Core.Bool.{true, false}
+use mathlib.Core.Path.{_≡_, refl}
 use lib.Ieee.{Float, nan, inf, fin, eq, ne, isNan}
 use borrow.Author.Tests.{eq-eqb}
 

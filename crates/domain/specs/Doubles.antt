@@ -38,7 +38,7 @@ abbrev pub eleven64 : Float
 eleven64 = ofBits binary64 0x4026_0000_0000_0000
 
 -- each is the number that it is called
-pub named :
+named :
     (zero64 ≡ round binary64 false 0 1) × (one64 ≡ round binary64 false 1 1) × (three64 ≡ round binary64 false 3 1) ×
     (nine64 ≡ round binary64 false 9 1) × (ten64 ≡ round binary64 false 10 1) × (eleven64 ≡ round binary64 false 11 1)
 unfolding round ofBits

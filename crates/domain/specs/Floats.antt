@@ -1,4 +1,5 @@
--- Rust's methods of an f32 that compare, and its operators as infix signs: one format, so that a formula reads like its line. Assumes nothing.
+-- Rust's methods of an f32 that compare, and its operators as infix signs: one format, so that a formula reads like its line.
+-- Assumes nothing.
 use mathlib.Core.Bool.{Bool, _&&_, cond}
 use lib.Ieee.{Float, binary32, add, sub, mul, div, lt, le, isNan}
 

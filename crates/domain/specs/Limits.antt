@@ -2,8 +2,8 @@
 use Prim.Native.Nat.{ℕ, _-_}
 use mathlib.Core.Bool.{Bool, false}
 use mathlib.Core.Path.{_≡_, refl}
-use lib.IntN.{pos}
 use lib.Ieee.{Float, binary32, ofBits, ofInt, round, neg}
+use lib.IntN.{pos}
 use Rattle.domain.specs.Floats.{within}
 
 -- the single nearest to n / d, which is what a decimal stands for
@@ -39,9 +39,9 @@ abbrev pub eleven : Float
 eleven = ofBits binary32 0x4130_0000
 
 -- each is the number that it is called
-pub named :
-    (zero32 ≡ decimal 0 1) × (half ≡ decimal 1 2) × (one ≡ decimal 1 1) × (two ≡ decimal 2 1) × (three ≡ decimal 3 1) × (four ≡ decimal 4 1) × (nine ≡ decimal 9 1) × (ten ≡ decimal 10 1) ×
-    (eleven ≡ decimal 11 1)
+named :
+    (zero32 ≡ decimal 0 1) × (half ≡ decimal 1 2) × (one ≡ decimal 1 1) × (two ≡ decimal 2 1) × (three ≡ decimal 3 1) ×
+    (four ≡ decimal 4 1) × (nine ≡ decimal 9 1) × (ten ≡ decimal 10 1) × (eleven ≡ decimal 11 1)
 unfolding decimal ofBits
 named = (refl, refl, refl, refl, refl, refl, refl, refl, refl)
 

@@ -3,8 +3,8 @@ use Prim.Native.Nat.{ℕ, zero, suc, _-_}
 use mathlib.Core.Bool.{Bool, true, _&&_, cond}
 use mathlib.Core.List.{List, [], _∷_, _++_}
 use lib.Dec.{eqb}
-use lib.Ieee.{Float, nan, neg}
 use lib.Ieee.Scale.{finite}
+use lib.Ieee.{Float, nan, neg}
 use lib.ListN.{getD, length, replicate, take}
 use Rattle.domain.specs.Floats.{within}
 use Rattle.domain.specs.Limits.{decimal, zero32, S_MIN, S_MAX}

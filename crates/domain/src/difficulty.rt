@@ -1,6 +1,6 @@
 // The difficulty's range, by `simulation.rs`'s ends, and what a rating counts in a difficulty.
-ghost use mathlib.Core.Path.{_≡_};
 ghost use Prim.Native.Nat.{_-_};
+ghost use mathlib.Core.Path.{_≡_};
 ghost use Rattle.domain.specs.Floats.{clampDef};
 ghost use Rattle.domain.specs.Limits.{D_MIN, D_MAX, ratingOffset, difficultyGood};
 use crate::floats::clamp;

@@ -1,16 +1,10 @@
 // Rust's `clamp`, `max`, `min` and `is_finite` of an f32. Each is total, and each NaN is accounted for.
 ghost use mathlib.Core.Path.{_≡_};
-ghost use mathlib.Core.Bool.{_&&_, cond};
+ghost use mathlib.Core.Bool.{cond};
 ghost use lib.Ieee.Scale.{finite};
 ghost use Rattle.domain.specs.Floats.{clampDef, maxDef, minDef, within};
 
-// Values where the language has only branches.
-pub fn both(a: bool, b: bool) -> bool
-    ensures { λ r. ⌜ r ≡ (a && b) ⌝ }
-{
-    if a { b } else { false }
-}
-
+// A value where the language has only branches.
 pub fn choose(c: bool, a: f32, b: f32) -> f32
     ensures { λ r. ⌜ r ≡ cond c a b ⌝ }
 {

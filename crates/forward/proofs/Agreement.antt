@@ -1,20 +1,19 @@
 -- A step's outcome depends on no weight but those that it reads. Assumes nothing.
 use Prim.Native.Nat.{ℕ, _-_}
-use mathlib.Core.Bool.{Bool, true, false, _||_, cond}
+use mathlib.Core.Bool.{Bool, true, false, _||_, cond, or-assoc}
 use mathlib.Core.List.{List, [], _∷_, _++_}
 use mathlib.Core.Path.{_≡_, refl, subst}
 use lib.Dec.{eqb}
 use lib.Ieee.{Float, neg, eq}
 use borrow.Author.Tests.{eq-eqb}
-use mathlib.Core.Bool.{or-assoc}
 use Rattle.domain.specs.Limits.{zero32, one, two, four}
 use Rattle.domain.specs.Weights.{_!_}
 use Rattle.forward.specs.Curve.{curveForward}
 use Rattle.forward.specs.Params.{curveFactor, paramsDef}
-use Rattle.forward.specs.Reads.{among, firstWeights, common, successWeights, reviewReads, stepReads, Agree}
+use Rattle.forward.specs.WeightsRead.{among, firstWeights, common, successWeights, reviewReads, stepReads, Agree}
 use Rattle.forward.specs.Stability.{successDef}
 use Rattle.forward.specs.Step.{clampState, ratingNumber, isFirst, moveDef, firstDef, reviewDef, stepDef}
-use Rattle.forward.specs.declared.stability.State.{State}
+use Rattle.forward.specs.declared.state.State.{State}
 
 -- a choice between equal things, each under its test
 pub by-cases : {A : Type 0} (b : Bool) (x y x′ y′ : A) → (b ≡ true → x ≡ x′) → (b ≡ false → y ≡ y′) → cond b x y ≡ cond b x′ y′

@@ -1,4 +1,3 @@
 -- Laws of the definitions.
--- Laws of the definitions.
 pub mod Agreement
 pub mod Unread

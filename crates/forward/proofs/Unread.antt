@@ -5,7 +5,7 @@ use mathlib.Core.Path.{_≡_}
 use lib.Ieee.{Float, eq}
 use Rattle.domain.specs.Limits.{zero32}
 use Rattle.forward.specs.declared.parameters.RuntimeParams.{RuntimeParams}
-use Rattle.forward.specs.declared.stability.State.{State}
+use Rattle.forward.specs.declared.state.State.{State}
 use Rattle.forward.specs.Step.{isFirst, stepDef}
 
 module _ (p : RuntimeParams) (q : State) (day other rating : Float) (row : ℕ) where

@@ -1,5 +1,5 @@
 pub mod Curve
 pub mod Params
-pub mod Reads
 pub mod Stability
 pub mod Step
+pub mod WeightsRead

@@ -1,4 +1,5 @@
--- RuntimeParams::new and init_difficulty of analytic_v6.rs: each number as a function of the weights that it comes from. A single widened to a double is the same value here. Assumes nothing.
+-- RuntimeParams::new and init_difficulty of analytic_v6.rs: each number as a function of the weights that it comes from.
+-- A single widened to a double is the same value here. Assumes nothing.
 use Prim.Native.Nat.{ℕ}
 use mathlib.Core.Bool.{false}
 use mathlib.Core.List.{List}

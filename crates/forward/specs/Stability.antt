@@ -1,12 +1,13 @@
--- How a review moves the stability, from step_forward of analytic_v6.rs. Each takes the weights that document 01 lets its branch read, and no other. Assumes nothing.
-use mathlib.Core.Bool.{Bool, true, false, not, _&&_, cond}
+-- How a review moves the stability, from step_forward of analytic_v6.rs.
+-- Each takes the weights that document 01 lets its branch read, and no other. Assumes nothing.
+use mathlib.Core.Bool.{Bool, not, _&&_, cond}
 use lib.Ieee.{Float, neg, lt, le, eq}
 use Rattle.domain.specs.Floats.{_+ᶠ_, _-ᶠ_, _*ᶠ_, _/ᶠ_, maxDef}
 use Rattle.domain.specs.Limits.{one, two, three, four, eleven}
 use Rattle.kernels.specs.Calls.{exp32, pow32}
-use Rattle.forward.specs.declared.stability.Branch.the-variants.{SameDay, Lapse, Success}
-use Rattle.forward.specs.declared.stability.Move.{Move}
-use Rattle.forward.specs.declared.stability.State.{State}
+use Rattle.forward.specs.declared.state.Branch.the-variants.{SameDay, Lapse, Success}
+use Rattle.forward.specs.declared.state.Move.{Move}
+use Rattle.forward.specs.declared.state.State.{State}
 
 -- (w[17] * (rating - 3.0 + w[18])).exp() * last_s.powf(-w[19])
 unfoldable pub shortRaw : (w17 w18 w19 s rating : Float) → Float
@@ -29,15 +30,19 @@ shortDef w17 w18 w19 s rating =
 
 -- w[11] * last_d.powf(-w[12]) * ((last_s + 1.0).powf(w[13]) - 1.0) * ((1.0 - r) * w[14]).exp()
 unfoldable pub lapseRaw : (w11 w12 w13 w14 s d r : Float) → Float
-lapseRaw w11 w12 w13 w14 s d r = w11 *ᶠ pow32 d (neg w12) *ᶠ (pow32 (s +ᶠ one) w13 -ᶠ one) *ᶠ exp32 ((one -ᶠ r) *ᶠ w14)
+lapseRaw w11 w12 w13 w14 s d r =
+    w11 *ᶠ pow32 d (neg w12) *ᶠ (pow32 (s +ᶠ one) w13 -ᶠ one) *ᶠ exp32 ((one -ᶠ r) *ᶠ w14)
 
--- the floor only if floor < raw; equality takes raw
+-- failure_used_floor is failure_floor < failure_raw: equality takes raw
 unfoldable pub lapseMove : (raw floor : Float) → Move
-lapseMove raw floor = cond (lt floor raw) (record { s = floor; branch = Lapse raw floor true }) (record { s = raw; branch = Lapse raw floor false })
+lapseMove raw floor =
+    let floored = lt floor raw in
+    record { s = cond floored floor raw; branch = Lapse raw floor floored }
 
 -- divisor: (w[17] * w[18]).exp()
 unfoldable pub lapseDef : (w11 w12 w13 w14 divisor : Float) (last : State) (r : Float) → Move
-lapseDef w11 w12 w13 w14 divisor last r = lapseMove (lapseRaw w11 w12 w13 w14 (last .s) (last .d) r) (last .s /ᶠ divisor)
+lapseDef w11 w12 w13 w14 divisor last r =
+    lapseMove (lapseRaw w11 w12 w13 w14 (last .s) (last .d) r) (last .s /ᶠ divisor)
 
 -- w15 is read if the rating is 2, and w16 if it is 4
 unfoldable pub successDef : (exp-w8 w9 w10 w15 w16 : Float) (last : State) (rating r : Float) → Move

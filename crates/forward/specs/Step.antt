@@ -1,4 +1,5 @@
--- step_forward of analytic_v6.rs by document 01's step rules: clamp first; padding returns the clamped state; a first step is at row 0 from a stability of 0; day -0.0 is same-day. A day that goes unread stands as +0.0 in the record. Assumes nothing.
+-- step_forward of analytic_v6.rs by document 01's step rules: clamp first; padding returns the clamped state; a first step is at row 0 from a
+-- stability of 0; day -0.0 is same-day. A day that goes unread stands as +0.0 in the record. Assumes nothing.
 use Prim.Native.Nat.{ℕ, _-_}
 use mathlib.Core.Bool.{Bool, _&&_, cond}
 use lib.Dec.{eqb}
@@ -10,10 +11,10 @@ use Rattle.forward.specs.Curve.{curveForward}
 use Rattle.forward.specs.Params.{initDifficulty}
 use Rattle.forward.specs.Stability.{shortDef, lapseDef, successDef}
 use Rattle.forward.specs.declared.parameters.RuntimeParams.{RuntimeParams}
-use Rattle.forward.specs.declared.stability.Branch.the-variants.{Padding, First}
-use Rattle.forward.specs.declared.stability.Move.{Move}
-use Rattle.forward.specs.declared.stability.State.{State}
-use Rattle.forward.specs.declared.step.Stepped.{Stepped}
+use Rattle.forward.specs.declared.state.Branch.the-variants.{Padding, First}
+use Rattle.forward.specs.declared.state.Move.{Move}
+use Rattle.forward.specs.declared.state.State.{State}
+use Rattle.forward.specs.declared.state.Stepped.{Stepped}
 
 -- 'from (0,0)'
 unfoldable pub noState : State

@@ -1,4 +1,4 @@
-// The forgetting curve of training. It neither fuses nor rounds days: `curve_formulas` has the study screen's.
+// The forgetting curve of training. It neither fuses nor rounds days: the study screen's curve, in `model_v6`, does both.
 ghost use mathlib.Core.Path.{_≡_};
 ghost use Rattle.forward.specs.Curve.{curveForward};
 use domain::floats::max;

@@ -1,7 +1,7 @@
-pub mod parameters;
+// analytic_v6.rs, forward: a review moves a memory state, and a record says by which branch.
 pub mod curve;
-// analytic_v6.rs, forward: the three ways in which a review moves the stability. Each function takes the weights that it
-// reads, and no more.
-pub mod stability;
-// analytic_v6.rs, forward: the training step with its record.
+pub mod parameters;
+// Each function takes the weights that it reads, and no more.
+mod stability;
+pub mod state;
 pub mod step;

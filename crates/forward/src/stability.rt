@@ -1,31 +1,15 @@
 // How a review moves the stability: on the same day, after a lapse, after a success. Each gives the branch with the
 // numbers that its reverse needs, and the stability before the clamp.
 ghost use mathlib.Core.Path.{_≡_};
-ghost use Rattle.forward.specs.Stability.{shortRaw, isFloored, shortValue, shortDef, lapseRaw, lapseMove, lapseDef, successDef};
+ghost use Rattle.forward.specs.Stability.{shortRaw, isFloored, shortValue, shortDef};
+ghost use Rattle.forward.specs.Stability.{lapseRaw, lapseMove, lapseDef, successDef};
+use crate::state::Branch;
+use crate::state::Move;
+use crate::state::State;
 use domain::floats::choose;
 use domain::floats::max;
 use kernels::exp::exp_f32;
 use kernels::pow::pow_f32;
-
-// The taken branch. First: the rating, 1 to 4.
-pub enum Branch {
-    Padding,
-    First(u32),
-    SameDay { raw: f32, value: f32, active: bool },
-    Lapse { raw: f32, floor: f32, floored: bool },
-    Success,
-}
-
-// A memory state: a stability and a difficulty.
-pub struct State {
-    pub s: f32,
-    pub d: f32,
-}
-
-pub struct Move {
-    pub s: f32,
-    pub branch: Branch,
-}
 
 fn short_raw(w17: f32, w18: f32, w19: f32, s: f32, rating: f32) -> f32
     ensures { λ r. ⌜ r ≡ shortRaw w17 w18 w19 s rating ⌝ }
@@ -69,24 +53,18 @@ fn lapse_raw(w11: f32, w12: f32, w13: f32, w14: f32, s: f32, d: f32, r: f32) -> 
     w11 * pow_f32(d, -w12) * (pow_f32(s + 1.0, w13) - 1.0) * exp_f32((1.0 - r) * w14)
 }
 
-// The floor is taken only where it is below the raw value.
+// The floor is taken only where it is below the raw value; equality takes the raw value.
 fn lapse_move(raw: f32, floor: f32) -> Move
     ensures { λ q. ⌜ q ≡ lapseMove raw floor ⌝ }
 {
-    if floor < raw {
-        let branch = Branch::Lapse {
-            raw,
-            floor,
-            floored: true,
-        };
-        return Move { s: floor, branch };
-    }
+    let floored = floor < raw;
+    let s = choose(floored, floor, raw);
     let branch = Branch::Lapse {
         raw,
         floor,
-        floored: false,
+        floored,
     };
-    Move { s: raw, branch }
+    Move { s, branch }
 }
 
 pub fn lapse(w11: f32, w12: f32, w13: f32, w14: f32, divisor: f32, last: State, r: f32) -> Move

@@ -1,36 +1,23 @@
 // The training step: a review moves a memory state, and the record says by which branch.
 ghost use mathlib.Core.Path.{_≡_};
 ghost use Prim.Native.Nat.{_<_};
-ghost use Rattle.forward.specs.Step.{clampState, ratingNumber, isFirst, difficultyDef, moveDef, paddingDef, firstDef, reviewDef, stepDef};
-use crate::stability::Branch;
-use crate::stability::Move;
-use crate::stability::State;
+ghost use lib.Ieee.{eq};
+ghost use Rattle.domain.specs.Limits.{zero32};
+ghost use Rattle.forward.specs.Step.{clampState, ratingNumber, isFirst, difficultyDef};
+ghost use Rattle.forward.specs.Step.{moveDef, paddingDef, firstDef, reviewDef, stepDef};
+use crate::curve::curve_forward;
+use crate::parameters::RuntimeParams;
+use crate::parameters::init_difficulty;
 use crate::stability::lapse;
 use crate::stability::same_day;
 use crate::stability::success;
-use crate::curve::curve_forward;
+use crate::state::Branch;
+use crate::state::Move;
+use crate::state::State;
+use crate::state::StepRecord;
+use crate::state::Stepped;
 use domain::difficulty::clamp_difficulty;
 use domain::limits::clamp_stability;
-use crate::parameters::RuntimeParams;
-use crate::parameters::init_difficulty;
-
-// What a reverse step needs: the state as given and as clamped, the day (+0.0 where it goes unread), the rating, the
-// retrievability, the outputs before their clamp, and the taken branch with its numbers.
-pub struct StepRecord {
-    pub state: State,
-    pub last: State,
-    pub day: f32,
-    pub rating: f32,
-    pub retrievability: f32,
-    pub pre_s: f32,
-    pub pre_d: f32,
-    pub branch: Branch,
-}
-
-pub struct Stepped {
-    pub state: State,
-    pub step: StepRecord,
-}
 
 pub fn clamp_state(q: State) -> State
     ensures { λ r. ⌜ r ≡ clampState q ⌝ }
@@ -71,12 +58,19 @@ fn next_difficulty(w6: f32, w7: f32, easy_d: f32, d: f32, rating: f32) -> f32
     w7 * (easy_d - next_d) + next_d
 }
 
+// A day of -0.0 is the same day too; a negative one is not.
+fn is_same_day(day: f32) -> bool
+    ensures { λ r. ⌜ r ≡ eq day zero32 ⌝ }
+{
+    day == 0.0
+}
+
 // The stability's way, by the day and the rating.
 fn moved(p: RuntimeParams, last: State, day: f32, rating: f32, r: f32) -> Move
     ensures { λ q. ⌜ q ≡ moveDef p last day rating r ⌝ }
 {
     let w = p.w;
-    if day == 0.0 {
+    if is_same_day(day) {
         return same_day(w[17], w[18], w[19], last.s, rating);
     }
     if rating == 1.0 {

@@ -2,7 +2,7 @@
 use Prim.Native.Nat.{ℕ}
 use mathlib.Core.List.{List}
 use lib.Ieee.{Float}
-use Rattle.forward.specs.declared.step.StepRecord.{StepRecord}
+use Rattle.forward.specs.declared.state.StepRecord.{StepRecord}
 use Rattle.columns.specs.Records.{storeDef}
 use Rattle.fsrs6.specs.Places.{written}
 

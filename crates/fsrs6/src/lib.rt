@@ -1,14 +1,9 @@
-pub mod places;
-pub mod kernels_face;
-pub mod rounding_face;
-pub mod formulas_face;
-pub mod stability_face;
-pub mod difficulty_face;
-pub mod step_face;
-// The C functions for the losses. Each is one call of the entry that proves it; its loss is written where the call was
-// accepted, and the refusal's number is returned.
-pub mod batch_grad;
-pub mod batch_loss;
-pub mod card_grad;
-pub mod card_loss;
-pub mod file_face;
+// The C functions of include/fsrs6.h, in its order. Each is one call of the entry that proves it; its answers are written where
+// the call was accepted, and the refusal's number is returned.
+pub mod arithmetic;
+pub mod cards;
+pub mod file;
+mod places;
+pub mod prefixes;
+pub mod step;
+pub mod study;

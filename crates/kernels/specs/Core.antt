@@ -63,8 +63,8 @@ unfoldable pub gap : (i M : ℕ) → ℕ
 gap i M = 2 ^ 64 - M * entry (256 - i) / 2 ^ 61
 
 -- -ln(1 - g / 2 ^ 64), in units of 2 ^ -64
-unfoldable pub below : Format → ℕ → ℕ
-below f g = g * horner (downs f) g / 2 ^ 63
+unfoldable pub lnBelow : Format → ℕ → ℕ
+lnBelow f g = g * horner (downs f) g / 2 ^ 63
 
 -- ±mag / 2 ^ 72
 pub record Fixed : Type 0 where
@@ -72,16 +72,16 @@ pub record Fixed : Type 0 where
   pub mag : ℕ
 
 -- ln (M / 2 ^ 62 * 2 ^ k) is ((256 k + i) N - 256 l) / 2 ^ 72
-abbrev pub logAt : ℤ → (i l : ℕ) → Fixed
-logAt (pos k) i l = record { negative = false; mag = (256 * k + i) * N - 256 * l }
-logAt (negsuc k) i l = record { negative = true; mag = (256 * suc k - i) * N + 256 * l }
+abbrev pub fixedLog : ℤ → (i l : ℕ) → Fixed
+fixedLog (pos k) i l = record { negative = false; mag = (256 * k + i) * N - 256 * l }
+fixedLog (negsuc k) i l = record { negative = true; mag = (256 * suc k - i) * N + 256 * l }
 
 -- m * 2 ^ e with its digits moved up to 63: M, and the exponent k of its leading digit
 abbrev pub moved : ℕ → ℕ
 moved m = m * 2 ^ (63 - size m)
 
 unfoldable pub logarithm : Format → ℕ → ℤ → Fixed
-unfolding firstFrom gap below
+unfolding firstFrom gap lnBelow
 logarithm f m e =
     let i = index (moved m) in
-    logAt (e +ℤ pos (size m - 1)) i (below f (gap i (moved m)))
+    fixedLog (e +ℤ pos (size m - 1)) i (lnBelow f (gap i (moved m)))

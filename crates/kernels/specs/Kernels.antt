@@ -20,14 +20,14 @@ fromPower f neg mag =
     cond (leb (2 ^ 82) mag) (cond neg (fin false 0 (pos 0)) (inf false)) (finish f (J / 256) (mantissa f (J % 256) s))
 
 -- m * 2 ^ e * w, cut to a whole number
-abbrev pub cut : ℕ → ℤ → ℕ → ℕ
-cut m e w = m * up e * w / down e
+abbrev pub wholeOf : ℕ → ℤ → ℕ → ℕ
+wholeOf m e w = m * up e * w / down e
 
 unfoldable pub expDef : Format → Float → Float
 unfolding fromPower
 expDef f nan = nan
 expDef f (inf s) = nan
-expDef f (fin s m e) = fromPower f s (cut m e (2 ^ 72))
+expDef f (fin s m e) = fromPower f s (wholeOf m e (2 ^ 72))
 
 unfoldable pub lnDef : Format → Float → Float
 unfolding logarithm
@@ -44,7 +44,7 @@ powered y = le (fin true 1 (pos 4)) y && le y (fin false 1 (pos 4))
 abbrev pub powAt : Format → Fixed → Float → Float
 powAt f l nan = nan
 powAt f l (inf t) = nan
-powAt f l (fin t n d) = fromPower f (unlike (l .negative) t) (cut n d (l .mag))
+powAt f l (fin t n d) = fromPower f (unlike (l .negative) t) (wholeOf n d (l .mag))
 
 unfoldable pub powDef : Format → Float → Float → Float
 unfolding fromPower logarithm

@@ -1,11 +1,11 @@
-// exp for f32 and f64, and the power of e for a fixed-point number of two words, each equal to its definition in
-// `kernels`. None asks anything of its caller.
+// exp for f32 and f64, and the power of e for a fixed-point number of two words, each equal to its definition
+// (specs/Kernels.antt).
 ghost use mathlib.Core.Path.{_≡_};
 ghost use Prim.Native.Nat.{_*_, _/_, _^_, _≤_, _<_};
 ghost use lib.Ieee.{binary32, binary64};
 ghost use Rattle.soft.specs.Value.{valueOf};
 ghost use Rattle.kernels.specs.Kernels.{expDef, fromPower};
-ghost use Rattle.kernels.specs.ExpSteps.{Holds};
+ghost use Rattle.kernels.specs.inner.Exp.{Holds};
 use crate::exp::power::Words;
 use crate::exp::power::power_f32;
 use crate::exp::power::power_f64;
@@ -90,7 +90,7 @@ fn words(w: Wide) -> Words
 }
 
 // E(±w / 2^72): +0 or an infinity from 2^82 on.
-pub fn raised_f64(negative: bool, w: Wide) -> f64
+pub(crate) fn raised_f64(negative: bool, w: Wide) -> f64
     ensures { λ r. ⌜ r ≡ fromPower binary64 negative (valueOf w) ⌝ }
 {
     let high = w.high;
@@ -104,7 +104,7 @@ pub fn raised_f64(negative: bool, w: Wide) -> f64
     1.0 / 0.0
 }
 
-pub fn raised_f32(negative: bool, w: Wide) -> f32
+pub(crate) fn raised_f32(negative: bool, w: Wide) -> f32
     ensures { λ r. ⌜ r ≡ fromPower binary32 negative (valueOf w) ⌝ }
 {
     let top = w.high;

@@ -2,9 +2,9 @@
 ghost use mathlib.Core.Path.{_≡_};
 ghost use Prim.Native.Nat.{_^_, _≤_, _<_};
 ghost use Rattle.kernels.specs.Core.{index};
-ghost use Rattle.kernels.specs.Steps.{Start};
-use table::starts::start_at;
+ghost use Rattle.kernels.specs.inner.Ln.{Start};
 use table::entry_at;
+use table::starts::start_at;
 
 // From the 9 digits below the leading one: at most one entry short for any number with these digits, and never too far.
 fn start_of(m: u64) -> u64

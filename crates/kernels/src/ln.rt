@@ -6,7 +6,7 @@ ghost use lib.IntN.{negsuc};
 ghost use Rattle.soft.specs.Value.{valueOf};
 ghost use Rattle.soft.specs.Pack.{packWideDef};
 ghost use Rattle.kernels.specs.Kernels.{lnDef};
-ghost use Rattle.kernels.specs.LnSteps.{Led};
+ghost use Rattle.kernels.specs.inner.Ln.{Led};
 use crate::logarithm::has_log;
 use crate::logarithm::log_f32;
 use crate::logarithm::log_f64;

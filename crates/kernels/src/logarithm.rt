@@ -8,13 +8,12 @@ ghost use lib.Signed.{leZ};
 ghost use lib.Ieee.{binary32, binary64, minus};
 ghost use lib.Ieee.Positive.{positive};
 ghost use Rattle.soft.specs.Value.{valueOf};
-ghost use Rattle.kernels.specs.Core.{high, index, gap, below, logAt};
-ghost use Rattle.kernels.specs.Steps.{logUnits, logOf};
-ghost use Rattle.kernels.specs.LnSteps.{Logged};
+ghost use Rattle.kernels.specs.Core.{high, index, gap, lnBelow, fixedLog};
+ghost use Rattle.kernels.specs.inner.Ln.{logUnits, logOf, Logged};
 use crate::index::index_of;
 use soft::units::measure;
-use table::entry_at;
 use soft::wide::Wide;
+use table::entry_at;
 
 // ±(high * 2^32 + low) / 2^72.
 pub struct Log {
@@ -55,7 +54,7 @@ fn scaled(g: u64, p: u64) -> u64
 // -ln(1 - g), by 7 terms.
 fn below_f64(g: u64) -> u64
     requires { ⌜ g ≤ 2 ^ 63 ⌝ }
-    ensures { λ r. ⌜ r ≡ below binary64 g ⌝ }
+    ensures { λ r. ⌜ r ≡ lnBelow binary64 g ⌝ }
 {
     let a = term(0x1555_5555_5555_5555, g, 0x1249_2492_4924_9249);
     let b = term(0x1999_9999_9999_9999, g, a);
@@ -68,7 +67,7 @@ fn below_f64(g: u64) -> u64
 // The same, by 5 terms: a single has no use for more.
 fn below_f32(g: u64) -> u64
     requires { ⌜ g ≤ 2 ^ 63 ⌝ }
-    ensures { λ r. ⌜ r ≡ below binary32 g ⌝ }
+    ensures { λ r. ⌜ r ≡ lnBelow binary32 g ⌝ }
 {
     let a = term(0x2000_0000_0000_0000, g, 0x1999_9999_9999_9999);
     let b = term(0x2aaa_aaaa_aaaa_aaaa, g, a);
@@ -114,7 +113,7 @@ fn exponent(digits: u64, places: u64) -> i64
 // (256 k + i) steps of the table, less l: the logarithm of a number with the exponent k.
 fn combine(k: i64, i: u64, l: u64) -> Log
     requires { ⌜ T (leZ (negsuc 1073) k) × T (leZ k (pos 1025)) × (i ≤ 256) ⌝ }
-    ensures { λ r. ⌜ Logged (logAt k i l) r ⌝ }
+    ensures { λ r. ⌜ Logged (fixedLog k i l) r ⌝ }
 {
     let b = soft::wide::product(l, 256);
     if k >= 0 {
@@ -130,7 +129,7 @@ fn combine(k: i64, i: u64, l: u64) -> Log
 // -ln(1 - g), by the terms that a double wants or by those that a single does.
 fn terms(double: bool, g: u64) -> u64
     requires { ⌜ g ≤ 2 ^ 63 ⌝ }
-    ensures { λ r. ⌜ r ≡ below (cond double binary64 binary32) g ⌝ }
+    ensures { λ r. ⌜ r ≡ lnBelow (cond double binary64 binary32) g ⌝ }
 {
     if double {
         return below_f64(g);
@@ -141,7 +140,7 @@ fn terms(double: bool, g: u64) -> u64
 // The logarithm of m / 2^62 * 2^k. One function for both formats, so that the code is there once.
 fn log_at(m: u64, k: i64, double: bool) -> Log
     requires { ⌜ (2 ^ 62 ≤ m) × (m < 2 ^ 63) × T (leZ (negsuc 1073) k) × T (leZ k (pos 1025)) ⌝ }
-    ensures { λ r. ⌜ Logged (logAt k (index m) (below (cond double binary64 binary32) (gap (index m) m))) r ⌝ }
+    ensures { λ r. ⌜ Logged (fixedLog k (index m) (lnBelow (cond double binary64 binary32) (gap (index m) m))) r ⌝ }
 {
     let i = index_of(m);
     let l = terms(double, gap_of(m, i));

@@ -5,11 +5,11 @@ ghost use lib.Ieee as Ieee;
 ghost use lib.Ieee.{binary32, binary64};
 ghost use Rattle.soft.specs.Value.{valueOf};
 ghost use Rattle.kernels.specs.Kernels.{powered, powDef};
+use crate::exp::raised_f32;
+use crate::exp::raised_f64;
 use crate::logarithm::has_log;
 use crate::logarithm::log_f32;
 use crate::logarithm::log_f64;
-use crate::exp::raised_f32;
-use crate::exp::raised_f64;
 use soft::units::measure;
 use soft::wide::Wide;
 

@@ -1,4 +1,5 @@
--- When a formula is refused, by document 01: 1 and 2 for the weights, then 13 for an argument. A refusal gives +0.0. Assumes nothing.
+-- What the entries of model_v6.rs answer, by document 01's refusals: 1 and 2 for the weights, then 13 for an argument. A refusal
+-- gives +0.0. Assumes nothing.
 use Prim.Native.Nat.{ℕ}
 use mathlib.Core.Bool.{Bool, _&&_, cond}
 use mathlib.Core.List.{List}
@@ -8,10 +9,16 @@ use lib.Ieee.Scale.{finite}
 use Rattle.domain.specs.Floats.{within}
 use Rattle.domain.specs.Limits.{zero32, one, dayGood, stabilityGood, difficultyGood}
 use Rattle.domain.specs.Weights.{weightsRefusal}
+use Rattle.model_v6.specs.Curve.{curveDef, intervalDef}
+use Rattle.model_v6.specs.Difficulty.{initDifficultyDef, meanReversionDef, nextDifficultyDef}
+use Rattle.model_v6.specs.NextState.{nextStateDef}
+use Rattle.model_v6.specs.Stability.{stabilityAfterSuccess, stabilityAfterFailure, stabilityShortTerm}
 use Rattle.model_v6.specs.declared.answers.Scalar.{Scalar}
+use Rattle.model_v6.specs.declared.state.MemoryState.{MemoryState}
+use Rattle.model_v6.specs.declared.state.NextState.{NextState}
 
 -- the order 1, 2, 13
-unfoldable pub scalarRefusal : List Float → (good : Bool) → ℕ
+unfoldable pub scalarRefusal : (w : List Float) (good : Bool) → ℕ
 scalarRefusal w good = cond (eqb (weightsRefusal w) 0) (cond good 0 13) (weightsRefusal w)
 
 abbrev pub refused : ℕ → Scalar
@@ -21,33 +28,57 @@ abbrev pub accepted : Float → Scalar
 accepted x = record { refusal = 0; value = x }
 
 -- x, for weights w inside the box and good arguments
-unfoldable pub scalarDef : List Float → (good : Bool) → Float → Scalar
+unfoldable pub scalarDef : (w : List Float) (good : Bool) (x : Float) → Scalar
 scalarDef w good x = cond (eqb (scalarRefusal w good) 0) (accepted x) (refused (scalarRefusal w good))
 
--- document 01's row 13: days, stability and difficulty in domain's ranges, retrievability, 'rating outside 1-4'
-abbrev pub retrievabilityGood : Float → Bool
-retrievabilityGood r = within r zero32 one
+abbrev pub refusedState : ℕ → NextState
+refusedState n = record { refusal = n; state = record { stability = zero32; difficulty = zero32 } }
 
-abbrev pub ratingGood : ℕ → Bool
-ratingGood n = leb 1 n && leb n 4
+abbrev pub acceptedState : MemoryState → NextState
+acceptedState m = record { refusal = 0; state = m }
 
-abbrev pub curveGood : (t s : Float) → Bool
-curveGood t s = dayGood t && finite s
+-- the same for a state
+unfoldable pub stateDef : (w : List Float) (good : Bool) (m : MemoryState) → NextState
+stateDef w good m = cond (eqb (scalarRefusal w good) 0) (acceptedState m) (refusedState (scalarRefusal w good))
 
-abbrev pub intervalGood : (stability desired : Float) → Bool
-intervalGood stability desired = finite stability && finite desired
+-- ---- row 13: 'anything not finite', 'stability, difficulty or retrievability outside [0.0001,36500], [1,10], [0,1], or rating
+-- outside 1-4'
+abbrev pub inRanges : (s r d : Float) → Bool
+inRanges s r d = (stabilityGood s && within r zero32 one) && difficultyGood d
 
-abbrev pub failureGood : (s r d : Float) → Bool
-failureGood s r d = (stabilityGood s && retrievabilityGood r) && difficultyGood d
+abbrev pub gradeGood : (rating : ℕ) → Bool
+gradeGood rating = leb 1 rating && leb rating 4
 
-abbrev pub successGood : (s r d : Float) (rating : ℕ) → Bool
-successGood s r d rating = failureGood s r d && ratingGood rating
+abbrev pub finiteMemory : MemoryState → Bool
+finiteMemory state = finite (state .stability) && finite (state .difficulty)
 
-abbrev pub shortTermGood : (s : Float) (rating : ℕ) → Bool
-shortTermGood s rating = stabilityGood s && ratingGood rating
+-- ---- the entries, each after the Rust's function of its name: which arguments are good, and the formula
+-- power_forgetting_curve_scalar
+unfoldable pub curveScalar : (w : List Float) (t s : Float) → Scalar
+curveScalar w t s = scalarDef w (dayGood t && finite s) (curveDef w t s)
 
-abbrev pub meanGood : (init current : Float) → Bool
-meanGood init current = finite init && finite current
+-- next_interval_scalar
+unfoldable pub intervalScalar : (w : List Float) (stability desired : Float) → Scalar
+intervalScalar w stability desired = scalarDef w (finite stability && finite desired) (intervalDef w stability desired)
 
-abbrev pub nextDifficultyGood : (d : Float) (rating : ℕ) → Bool
-nextDifficultyGood d rating = difficultyGood d && ratingGood rating
+unfoldable pub stabilityAfterSuccessScalar : (w : List Float) (s r d : Float) (rating : ℕ) → Scalar
+stabilityAfterSuccessScalar w s r d rating = scalarDef w (inRanges s r d && gradeGood rating) (stabilityAfterSuccess w s r d rating)
+
+unfoldable pub stabilityAfterFailureScalar : (w : List Float) (s r d : Float) → Scalar
+stabilityAfterFailureScalar w s r d = scalarDef w (inRanges s r d) (stabilityAfterFailure w s r d)
+
+unfoldable pub stabilityShortTermScalar : (w : List Float) (s : Float) (rating : ℕ) → Scalar
+stabilityShortTermScalar w s rating = scalarDef w (stabilityGood s && gradeGood rating) (stabilityShortTerm w s rating)
+
+unfoldable pub initDifficultyScalar : (w : List Float) (rating : ℕ) → Scalar
+initDifficultyScalar w rating = scalarDef w (gradeGood rating) (initDifficultyDef w rating)
+
+unfoldable pub meanReversionScalar : (w : List Float) (init current : Float) → Scalar
+meanReversionScalar w init current = scalarDef w (finite init && finite current) (meanReversionDef w init current)
+
+unfoldable pub nextDifficultyScalar : (w : List Float) (d : Float) (rating : ℕ) → Scalar
+nextDifficultyScalar w d rating = scalarDef w (difficultyGood d && gradeGood rating) (nextDifficultyDef w d rating)
+
+-- any rating is taken: 'clamps any whole rating to 1-4'
+unfoldable pub nextStateScalar : (w : List Float) (state : MemoryState) (delta-t : Float) (rating : ℕ) → NextState
+nextStateScalar w state delta-t rating = stateDef w (finiteMemory state && dayGood delta-t) (nextStateDef w state delta-t rating)

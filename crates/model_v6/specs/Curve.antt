@@ -1,12 +1,13 @@
--- power_forgetting_curve_scalar and next_interval_scalar of model_v6.rs, line for line: `w` is the 21 weights, and each product, sum and clamp stands where the Rust has it. Assumes nothing.
+-- power_forgetting_curve_scalar and next_interval_scalar of model_v6.rs, line for line: `w` is the 21 weights, and each product,
+-- sum and clamp stands where the Rust has it. Assumes nothing.
 use mathlib.Core.List.{List}
 use lib.Ieee.{Float, binary32, neg}
-use Rattle.soft.specs.Fma.{fmaDef}
-use Rattle.soft.specs.HalfAway.{roundDef}
-use Rattle.kernels.specs.Calls.{pow32}
 use Rattle.domain.specs.Floats.{_-ᶠ_, _*ᶠ_, _/ᶠ_, clampDef, maxDef}
 use Rattle.domain.specs.Limits.{decimal, zero32, one, S_MIN, S_MAX}
 use Rattle.domain.specs.Weights.{_!_}
+use Rattle.kernels.specs.Calls.{pow32}
+use Rattle.soft.specs.Fma.{fmaDef}
+use Rattle.soft.specs.HalfAway.{roundDef}
 
 -- x.mul_add(a, b)
 abbrev pub mul-add : (x a b : Float) → Float
@@ -22,13 +23,15 @@ daysDef t = roundDef binary32 (maxDef t zero32)
 
 -- power_forgetting_curve_scalar
 unfoldable pub curveDef : (w : List Float) (t s : Float) → Float
-curveDef w t s = pow32 (mul-add (daysDef t /ᶠ maxDef s S_MIN) (factorDef (neg (w ! 20))) one) (neg (w ! 20))
+curveDef w t s =
+    let s = maxDef s S_MIN in
+    let decay = neg (w ! 20) in
+    pow32 (mul-add (daysDef t /ᶠ s) (factorDef decay) one) decay
 
 -- next_interval_scalar
 unfoldable pub intervalDef : (w : List Float) (stability desired : Float) → Float
 intervalDef w stability desired =
-    clampDef
-    (maxDef stability S_MIN /ᶠ factorDef (neg (w ! 20)) *ᶠ
-    (pow32 (clampDef desired (decimal 1 10000) (decimal 9999 10000)) (one /ᶠ neg (w ! 20)) -ᶠ one))
-    zero32
-    S_MAX
+    let stability = maxDef stability S_MIN in
+    let desired = clampDef desired (decimal 1 10000) (decimal 9999 10000) in
+    let decay = neg (w ! 20) in
+    clampDef (stability /ᶠ factorDef decay *ᶠ (pow32 desired (one /ᶠ decay) -ᶠ one)) zero32 S_MAX

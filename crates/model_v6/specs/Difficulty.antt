@@ -1,11 +1,12 @@
--- The difficulty, by model_v6.rs, line for line: `w` is the 21 weights, and each product, sum and clamp stands where the Rust has it. Assumes nothing.
+-- The difficulty, by model_v6.rs, line for line: `w` is the 21 weights, and each product, sum and clamp stands where the Rust has
+-- it. Assumes nothing.
 use Prim.Native.Nat.{ℕ}
 use mathlib.Core.List.{List}
 use lib.Ieee.{Float, neg}
-use Rattle.kernels.specs.Calls.{exp32}
 use Rattle.domain.specs.Floats.{_+ᶠ_, _-ᶠ_, _*ᶠ_, _/ᶠ_, clampDef}
 use Rattle.domain.specs.Limits.{one, three, nine, ten, ratingOffset, D_MIN, D_MAX}
 use Rattle.domain.specs.Weights.{_!_}
+use Rattle.kernels.specs.Calls.{exp32}
 use Rattle.model_v6.specs.Stability.{as-f32}
 
 -- init_difficulty_scalar

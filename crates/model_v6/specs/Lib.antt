@@ -4,4 +4,3 @@ pub mod Difficulty
 pub mod Filling
 pub mod NextState
 pub mod Stability
-pub mod State

@@ -1,6 +1,6 @@
 // What an entry gives: the number of a refusal, 0 where there is none, and a single, +0.0 where there is one.
 ghost use mathlib.Core.Path.{_≡_};
-ghost use Rattle.model_v6.specs.Answers.{scalarRefusal, refused, accepted, ratingGood};
+ghost use Rattle.model_v6.specs.Answers.{scalarRefusal, refused, accepted, gradeGood};
 use domain::weights::weights_refusal;
 
 pub struct Scalar {
@@ -9,7 +9,7 @@ pub struct Scalar {
 }
 
 // 1 and 2 are the weights', and then 13 where an argument is not `good`.
-pub fn scalar_refusal(w: &[f32], good: bool) -> u32
+pub(crate) fn scalar_refusal(w: &[f32], good: bool) -> u32
     ensures { λ r. ⌜ r ≡ scalarRefusal (now (w .entry)) good ⌝ }
 {
     let n = weights_refusal(w);
@@ -22,7 +22,7 @@ pub fn scalar_refusal(w: &[f32], good: bool) -> u32
     13
 }
 
-pub fn refused(n: u32) -> Scalar
+pub(crate) fn refused(n: u32) -> Scalar
     ensures { λ r. ⌜ r ≡ refused n ⌝ }
 {
     Scalar {
@@ -31,7 +31,7 @@ pub fn refused(n: u32) -> Scalar
     }
 }
 
-pub fn accepted(x: f32) -> Scalar
+pub(crate) fn accepted(x: f32) -> Scalar
     ensures { λ r. ⌜ r ≡ accepted x ⌝ }
 {
     Scalar {
@@ -40,8 +40,8 @@ pub fn accepted(x: f32) -> Scalar
     }
 }
 
-pub fn is_rating(rating: u32) -> bool
-    ensures { λ r. ⌜ r ≡ ratingGood rating ⌝ }
+pub(crate) fn is_rating(rating: u32) -> bool
+    ensures { λ r. ⌜ r ≡ gradeGood rating ⌝ }
 {
     if rating < 1 {
         return false;

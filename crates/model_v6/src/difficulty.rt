@@ -1,22 +1,21 @@
 // The first difficulty, the mean reversion and the next difficulty, with their checks.
 ghost use mathlib.Core.Path.{_≡_};
-ghost use Rattle.model_v6.specs.Difficulty.{initDifficultyDef, meanReversionDef, nextDifficultyDef};
-ghost use Rattle.model_v6.specs.Answers.{meanGood, nextDifficultyGood, ratingGood, scalarDef};
-use domain::difficulty::is_difficulty;
-use crate::formulas::difficulty::init_difficulty;
-use crate::formulas::difficulty::mean_reversion;
-use crate::formulas::difficulty::next_difficulty;
-use domain::floats::both;
-use domain::floats::is_finite;
+ghost use Rattle.model_v6.specs.Answers.{initDifficultyScalar, meanReversionScalar, nextDifficultyScalar};
 use crate::answers::Scalar;
 use crate::answers::accepted;
 use crate::answers::is_rating;
 use crate::answers::refused;
 use crate::answers::scalar_refusal;
+use crate::formulas::difficulty::init_difficulty;
+use crate::formulas::difficulty::mean_reversion;
+use crate::formulas::difficulty::next_difficulty;
+use domain::difficulty::is_difficulty;
+use domain::floats::is_finite;
 use domain::weights::copy_weights;
+use soft::flags::both;
 
 pub fn init_difficulty_scalar(w: &[f32], rating: u32) -> Scalar
-    ensures { λ r. ⌜ r ≡ scalarDef (now (w .entry)) (ratingGood rating) (initDifficultyDef (now (w .entry)) rating) ⌝ }
+    ensures { λ r. ⌜ r ≡ initDifficultyScalar (now (w .entry)) rating ⌝ }
 {
     let n = scalar_refusal(w, is_rating(rating));
     if n != 0 {
@@ -27,7 +26,7 @@ pub fn init_difficulty_scalar(w: &[f32], rating: u32) -> Scalar
 }
 
 pub fn mean_reversion_scalar(w: &[f32], init: f32, current: f32) -> Scalar
-    ensures { λ r. ⌜ r ≡ scalarDef (now (w .entry)) (meanGood init current) (meanReversionDef (now (w .entry)) init current) ⌝ }
+    ensures { λ r. ⌜ r ≡ meanReversionScalar (now (w .entry)) init current ⌝ }
 {
     let n = scalar_refusal(w, both(is_finite(init), is_finite(current)));
     if n != 0 {
@@ -38,7 +37,7 @@ pub fn mean_reversion_scalar(w: &[f32], init: f32, current: f32) -> Scalar
 }
 
 pub fn next_difficulty_scalar(w: &[f32], d: f32, rating: u32) -> Scalar
-    ensures { λ r. ⌜ r ≡ scalarDef (now (w .entry)) (nextDifficultyGood d rating) (nextDifficultyDef (now (w .entry)) d rating) ⌝ }
+    ensures { λ r. ⌜ r ≡ nextDifficultyScalar (now (w .entry)) d rating ⌝ }
 {
     let n = scalar_refusal(w, both(is_difficulty(d), is_rating(rating)));
     if n != 0 {

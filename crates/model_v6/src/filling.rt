@@ -5,10 +5,10 @@ ghost use lib.ListN.{length};
 ghost use Rattle.model_v6.specs.Filling.{lengthGood, fill17, fill19, fillDef, unfilled, fillAnswer};
 use domain::defaults::all_finite;
 use domain::defaults::default_weights;
-use soft::fma::fma_f32;
-use kernels::ln::ln_f32;
 use domain::weights::copy_weights;
 use domain::weights::weights_refusal;
+use kernels::ln::ln_f32;
+use soft::fma::fma_f32;
 
 const FSRS5_DEFAULT_DECAY: f32 = 0.5;
 

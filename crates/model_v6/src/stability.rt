@@ -1,11 +1,11 @@
 // The stability after a success, a lapse or a review on the same day, with its checks.
 ghost use mathlib.Core.Path.{_≡_};
-ghost use Rattle.model_v6.specs.Stability.{successDef, failureDef, shortTermDef};
-ghost use Rattle.model_v6.specs.Answers.{successGood, failureGood, shortTermGood, scalarDef};
-use domain::difficulty::is_difficulty;
-use domain::floats::both;
-use domain::floats::is_within;
-use domain::limits::is_stability;
+ghost use Rattle.model_v6.specs.Answers.{
+  inRanges,
+  stabilityAfterSuccessScalar,
+  stabilityAfterFailureScalar,
+  stabilityShortTermScalar,
+};
 use crate::answers::Scalar;
 use crate::answers::accepted;
 use crate::answers::is_rating;
@@ -14,11 +14,15 @@ use crate::answers::scalar_refusal;
 use crate::formulas::stability::stability_after_failure;
 use crate::formulas::stability::stability_after_success;
 use crate::formulas::stability::stability_short_term;
+use domain::difficulty::is_difficulty;
+use domain::floats::is_within;
+use domain::limits::is_stability;
 use domain::weights::copy_weights;
+use soft::flags::both;
 
 // Whether all three lie in their ranges.
 fn in_ranges(s: f32, r: f32, d: f32) -> bool
-    ensures { λ q. ⌜ q ≡ failureGood s r d ⌝ }
+    ensures { λ q. ⌜ q ≡ inRanges s r d ⌝ }
 {
     both(
         both(is_stability(s), is_within(r, 0.0, 1.0)),
@@ -27,7 +31,7 @@ fn in_ranges(s: f32, r: f32, d: f32) -> bool
 }
 
 pub fn stability_after_success_scalar(w: &[f32], s: f32, r: f32, d: f32, rating: u32) -> Scalar
-    ensures { λ q. ⌜ q ≡ scalarDef (now (w .entry)) (successGood s r d rating) (successDef (now (w .entry)) s r d rating) ⌝ }
+    ensures { λ q. ⌜ q ≡ stabilityAfterSuccessScalar (now (w .entry)) s r d rating ⌝ }
 {
     let n = scalar_refusal(w, both(in_ranges(s, r, d), is_rating(rating)));
     if n != 0 {
@@ -38,7 +42,7 @@ pub fn stability_after_success_scalar(w: &[f32], s: f32, r: f32, d: f32, rating:
 }
 
 pub fn stability_after_failure_scalar(w: &[f32], s: f32, r: f32, d: f32) -> Scalar
-    ensures { λ q. ⌜ q ≡ scalarDef (now (w .entry)) (failureGood s r d) (failureDef (now (w .entry)) s r d) ⌝ }
+    ensures { λ q. ⌜ q ≡ stabilityAfterFailureScalar (now (w .entry)) s r d ⌝ }
 {
     let n = scalar_refusal(w, in_ranges(s, r, d));
     if n != 0 {
@@ -49,7 +53,7 @@ pub fn stability_after_failure_scalar(w: &[f32], s: f32, r: f32, d: f32) -> Scal
 }
 
 pub fn stability_short_term_scalar(w: &[f32], s: f32, rating: u32) -> Scalar
-    ensures { λ q. ⌜ q ≡ scalarDef (now (w .entry)) (shortTermGood s rating) (shortTermDef (now (w .entry)) s rating) ⌝ }
+    ensures { λ q. ⌜ q ≡ stabilityShortTermScalar (now (w .entry)) s rating ⌝ }
 {
     let n = scalar_refusal(w, both(is_stability(s), is_rating(rating)));
     if n != 0 {

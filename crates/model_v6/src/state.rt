@@ -1,14 +1,18 @@
 // The state after a review, with its checks.
 ghost use mathlib.Core.Path.{_≡_};
-ghost use Rattle.model_v6.specs.State.{nextStateDef};
-ghost use Rattle.model_v6.specs.NextState.{finiteState, nextGood, nextDef};
-use domain::floats::both;
+ghost use Rattle.model_v6.specs.Answers.{finiteMemory, nextStateScalar};
+use crate::answers::scalar_refusal;
+use crate::formulas::state::next_state;
 use domain::floats::is_finite;
 use domain::limits::is_day;
-use crate::formulas::state::MemoryState;
-use crate::formulas::state::next_state;
-use crate::answers::scalar_refusal;
 use domain::weights::copy_weights;
+use soft::flags::both;
+
+// A card's stability and difficulty.
+pub struct MemoryState {
+    pub stability: f32,
+    pub difficulty: f32,
+}
 
 // The number of a refusal, 0 where there is none, and the state, of +0.0 where there is one.
 pub struct NextState {
@@ -17,14 +21,14 @@ pub struct NextState {
 }
 
 fn is_finite_state(state: MemoryState) -> bool
-    ensures { λ r. ⌜ r ≡ finiteState state ⌝ }
+    ensures { λ r. ⌜ r ≡ finiteMemory state ⌝ }
 {
     both(is_finite(state.stability), is_finite(state.difficulty))
 }
 
 // The state after a review `delta_t` days after the last one. Any rating is taken, and clamped to 1-4.
 pub fn next_state_scalar(w: &[f32], state: MemoryState, delta_t: f32, rating: u32) -> NextState
-    ensures { λ r. ⌜ r ≡ nextDef (now (w .entry)) (nextGood state «delta_t») (nextStateDef (now (w .entry)) state «delta_t» rating) ⌝ }
+    ensures { λ r. ⌜ r ≡ nextStateScalar (now (w .entry)) state «delta_t» rating ⌝ }
 {
     let n = scalar_refusal(w, both(is_finite_state(state), is_day(delta_t)));
     if n != 0 {

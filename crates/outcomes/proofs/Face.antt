@@ -1,48 +1,35 @@
 -- One outcome: the C functions. A line for each function: its answer, then each parameter in turn. Assumes nothing.
 use Rattle.outcomes.specs.Outcome.{One, one}
 use Rattle.outcomes.proofs.Tuples.{_⨾_, none, end}
-use Rattle.fsrs6.proofs.places.put_f32
-use Rattle.fsrs6.proofs.places.put_f64
-use Rattle.fsrs6.proofs.places.put_weights
-use Rattle.fsrs6.proofs.kernels_face.scalar.fsrs_exp_f32
-use Rattle.fsrs6.proofs.kernels_face.scalar.fsrs_exp_f64
-use Rattle.fsrs6.proofs.kernels_face.scalar.fsrs_ln_f32
-use Rattle.fsrs6.proofs.kernels_face.scalar.fsrs_ln_f64
-use Rattle.fsrs6.proofs.kernels_face.scalar.fsrs_pow_f32
-use Rattle.fsrs6.proofs.kernels_face.scalar.fsrs_pow_f64
-use Rattle.fsrs6.proofs.rounding_face.fsrs_fma_f32
-use Rattle.fsrs6.proofs.rounding_face.fsrs_fma_f64
-use Rattle.fsrs6.proofs.rounding_face.fsrs_round_f32
-use Rattle.fsrs6.proofs.rounding_face.fsrs_round_f64
-use Rattle.fsrs6.proofs.formulas_face.curve.fsrs_power_forgetting_curve
-use Rattle.fsrs6.proofs.formulas_face.curve.fsrs_next_interval
-use Rattle.fsrs6.proofs.formulas_face.state.fsrs_next_state
-use Rattle.fsrs6.proofs.formulas_face.weight_set.fsrs_check_and_fill_parameters
-use Rattle.fsrs6.proofs.stability_face.fsrs_stability_after_success
-use Rattle.fsrs6.proofs.stability_face.fsrs_stability_after_failure
-use Rattle.fsrs6.proofs.stability_face.fsrs_stability_short_term
-use Rattle.fsrs6.proofs.difficulty_face.fsrs_init_difficulty
-use Rattle.fsrs6.proofs.difficulty_face.fsrs_mean_reversion
-use Rattle.fsrs6.proofs.difficulty_face.fsrs_next_difficulty
-use Rattle.fsrs6.proofs.step_face.step.fsrs_training_step
-use Rattle.fsrs6.proofs.step_face.step_backward.fsrs_training_step_backward
-use Rattle.fsrs6.proofs.batch_grad.fsrs_batch_loss_and_grad
-use Rattle.fsrs6.proofs.batch_loss.fsrs_batch_loss
-use Rattle.fsrs6.proofs.card_grad.fsrs_card_loss_and_grad
-use Rattle.fsrs6.proofs.card_loss.fsrs_card_loss
-use Rattle.fsrs6.proofs.file_face.fsrs_batch_file
+use Rattle.fsrs6.proofs.arithmetic.fsrs_exp_f32
+use Rattle.fsrs6.proofs.arithmetic.fsrs_exp_f64
+use Rattle.fsrs6.proofs.arithmetic.fsrs_ln_f32
+use Rattle.fsrs6.proofs.arithmetic.fsrs_ln_f64
+use Rattle.fsrs6.proofs.arithmetic.fsrs_pow_f32
+use Rattle.fsrs6.proofs.arithmetic.fsrs_pow_f64
+use Rattle.fsrs6.proofs.arithmetic.fsrs_fma_f32
+use Rattle.fsrs6.proofs.arithmetic.fsrs_fma_f64
+use Rattle.fsrs6.proofs.arithmetic.fsrs_round_f32
+use Rattle.fsrs6.proofs.arithmetic.fsrs_round_f64
+use Rattle.fsrs6.proofs.study.fsrs_power_forgetting_curve
+use Rattle.fsrs6.proofs.study.fsrs_next_interval
+use Rattle.fsrs6.proofs.study.fsrs_next_state
+use Rattle.fsrs6.proofs.study.fsrs_check_and_fill_parameters
+use Rattle.fsrs6.proofs.study.fsrs_stability_after_success
+use Rattle.fsrs6.proofs.study.fsrs_stability_after_failure
+use Rattle.fsrs6.proofs.study.fsrs_stability_short_term
+use Rattle.fsrs6.proofs.study.fsrs_init_difficulty
+use Rattle.fsrs6.proofs.study.fsrs_mean_reversion
+use Rattle.fsrs6.proofs.study.fsrs_next_difficulty
+use Rattle.fsrs6.proofs.step.fsrs_training_step
+use Rattle.fsrs6.proofs.step.fsrs_training_step_backward
+use Rattle.fsrs6.proofs.prefixes.fsrs_batch_loss_and_grad
+use Rattle.fsrs6.proofs.prefixes.fsrs_batch_loss
+use Rattle.fsrs6.proofs.cards.fsrs_card_loss_and_grad
+use Rattle.fsrs6.proofs.cards.fsrs_card_loss
+use Rattle.fsrs6.proofs.file.fsrs_batch_file
 
--- places
-pub one-put-f32 : One put_f32.Kinds.ps put_f32.Kinds.r put_f32.Reads.Post
-one-put-f32 = one (λ κs a o c. none ⨾ c ⨾ none ⨾ none ⨾ end)
-
-pub one-put-f64 : One put_f64.Kinds.ps put_f64.Kinds.r put_f64.Reads.Post
-one-put-f64 = one (λ κs a o c. none ⨾ c ⨾ none ⨾ none ⨾ end)
-
-pub one-put-weights : One put_weights.Kinds.ps put_weights.Kinds.r put_weights.Reads.Post
-one-put-weights = one (λ κs a o c. none ⨾ c ⨾ none ⨾ none ⨾ end)
-
--- fsrs6_kernels
+-- fsrs6::arithmetic
 pub one-fsrs-exp-f32 : One fsrs_exp_f32.Kinds.ps fsrs_exp_f32.Kinds.r fsrs_exp_f32.Reads.Post
 one-fsrs-exp-f32 = one (λ κs a o c. c ⨾ none ⨾ end)
 
@@ -73,7 +60,7 @@ one-fsrs-round-f32 = one (λ κs a o c. c ⨾ none ⨾ end)
 pub one-fsrs-round-f64 : One fsrs_round_f64.Kinds.ps fsrs_round_f64.Kinds.r fsrs_round_f64.Reads.Post
 one-fsrs-round-f64 = one (λ κs a o c. c ⨾ none ⨾ end)
 
--- fsrs6_formulas
+-- fsrs6::study
 pub one-fsrs-power-forgetting-curve : One fsrs_power_forgetting_curve.Kinds.ps fsrs_power_forgetting_curve.Kinds.r fsrs_power_forgetting_curve.Reads.Post
 one-fsrs-power-forgetting-curve = one (λ κs a o c. c .0 ⨾ none ⨾ none ⨾ none ⨾ c .1 ⨾ end)
 
@@ -106,26 +93,27 @@ one-fsrs-mean-reversion = one (λ κs a o c. c .0 ⨾ none ⨾ none ⨾ none ⨾
 pub one-fsrs-next-difficulty : One fsrs_next_difficulty.Kinds.ps fsrs_next_difficulty.Kinds.r fsrs_next_difficulty.Reads.Post
 one-fsrs-next-difficulty = one (λ κs a o c. c .0 ⨾ none ⨾ none ⨾ none ⨾ c .1 ⨾ end)
 
--- fsrs6_step
+-- fsrs6::step
 pub one-fsrs-training-step : One fsrs_training_step.Kinds.ps fsrs_training_step.Kinds.r fsrs_training_step.Reads.Post
 one-fsrs-training-step = one (λ κs a o c. c .0 ⨾ none ⨾ none ⨾ none ⨾ none ⨾ none ⨾ none ⨾ c .1 ⨾ c .2 ⨾ c .3 ⨾ end)
 
 pub one-fsrs-training-step-backward : One fsrs_training_step_backward.Kinds.ps fsrs_training_step_backward.Kinds.r fsrs_training_step_backward.Reads.Post
 one-fsrs-training-step-backward = one (λ κs a o c. c .0 ⨾ none ⨾ none ⨾ none ⨾ none ⨾ none ⨾ none ⨾ none ⨾ none ⨾ none ⨾ c .1 ⨾ c .2 ⨾ c .3 ⨾ end)
 
--- fsrs6_losses
+-- fsrs6::prefixes
 pub one-fsrs-batch-loss-and-grad : One fsrs_batch_loss_and_grad.Kinds.ps fsrs_batch_loss_and_grad.Kinds.r fsrs_batch_loss_and_grad.Reads.Post
-one-fsrs-batch-loss-and-grad = one (λ κs a o c. c .0 ⨾ none ⨾ none ⨾ none ⨾ none ⨾ none ⨾ none ⨾ none ⨾ none ⨾ none ⨾ c .1 ⨾ c .2 ⨾ c .3 ⨾ end)
+one-fsrs-batch-loss-and-grad = one (λ κs a o c. c .0 .0 ⨾ none ⨾ none ⨾ none ⨾ none ⨾ none ⨾ none ⨾ none ⨾ none ⨾ none ⨾ c .1 .0 ⨾ c .1 .1 ⨾ c .0 .1 ⨾ end)
 
 pub one-fsrs-batch-loss : One fsrs_batch_loss.Kinds.ps fsrs_batch_loss.Kinds.r fsrs_batch_loss.Reads.Post
 one-fsrs-batch-loss = one (λ κs a o c. c .0 ⨾ none ⨾ none ⨾ none ⨾ none ⨾ none ⨾ none ⨾ none ⨾ none ⨾ none ⨾ c .1 ⨾ end)
 
+-- fsrs6::cards
 pub one-fsrs-card-loss-and-grad : One fsrs_card_loss_and_grad.Kinds.ps fsrs_card_loss_and_grad.Kinds.r fsrs_card_loss_and_grad.Reads.Post
-one-fsrs-card-loss-and-grad = one (λ κs a o c. c .0 ⨾ none ⨾ none ⨾ none ⨾ none ⨾ none ⨾ none ⨾ none ⨾ none ⨾ c .1 ⨾ c .2 ⨾ c .3 ⨾ c .4 ⨾ end)
+one-fsrs-card-loss-and-grad = one (λ κs a o c. c .0 .0 ⨾ none ⨾ none ⨾ none ⨾ none ⨾ none ⨾ none ⨾ none ⨾ none ⨾ c .1 .0 ⨾ c .1 .1 ⨾ c .1 .2 ⨾ c .0 .1 ⨾ end)
 
 pub one-fsrs-card-loss : One fsrs_card_loss.Kinds.ps fsrs_card_loss.Kinds.r fsrs_card_loss.Reads.Post
 one-fsrs-card-loss = one (λ κs a o c. c .0 ⨾ none ⨾ none ⨾ none ⨾ none ⨾ none ⨾ none ⨾ none ⨾ none ⨾ c .1 ⨾ end)
 
--- fsrs6_file
+-- fsrs6::file
 pub one-fsrs-batch-file : One fsrs_batch_file.Kinds.ps fsrs_batch_file.Kinds.r fsrs_batch_file.Reads.Post
-one-fsrs-batch-file = one (λ κs a o c. c .0 ⨾ none ⨾ c .1 ⨾ c .2 ⨾ end)
+one-fsrs-batch-file = one (λ κs a o c. c .0 .0 ⨾ none ⨾ c .1 ⨾ c .0 .1 ⨾ end)

@@ -5,19 +5,19 @@ use mathlib.Core.Path.{_≡_, sym, ap, _∙_}
 use lib.Ieee.{Float}
 use Rattle.domain.specs.Weights.{_!_}
 use Rattle.promises.proofs.Frozen.{demand3}
-use Rattle.outcomes.specs.Frozen.{prefix-call, prefix-weights, prefix-input, card-call, card-weights, card-input, FrozenEntries}
+use Rattle.outcomes.specs.FrozenEntries.{prefix-call, prefix-weights, prefix-input, card-call, card-weights, card-input, FrozenEntries}
 
 pub frozen-entries : FrozenEntries
 frozen-entries =
     record {
       batch-grad = record {
-        same = λ κs a b o q c d h. let e = demand3 .0 .same-outcome (prefix-call κs a) (prefix-call κs b) h in (c .1 .0 ∙ e .0 ∙ sym (d .1 .0), c .1 .1 ∙ e .1 ∙ sym (d .1 .1));
-        kept = λ κs a o c k z m. ap (λ (xs : List Float). xs ! k) (c .1 .1) ∙ demand3 .0 .slot-kept (prefix-call κs a) k z m;
+        same = λ κs a b o q c d h. let e = demand3 .0 .same-outcome (prefix-call κs a) (prefix-call κs b) h in (c .1 .0 ∙ e .0 ∙ sym (d .1 .0), c .1 .1 .0 ∙ e .1 ∙ sym (d .1 .1 .0));
+        kept = λ κs a o c k z m. ap (λ (xs : List Float). xs ! k) (c .1 .1 .0) ∙ demand3 .0 .slot-kept (prefix-call κs a) k z m;
       };
       batch = record { same = λ κs a b o q c d h g. c .1 ∙ demand3 .0 .same-loss (prefix-input κs a) (prefix-input κs b) (prefix-weights κs a) (prefix-weights κs b) h g ∙ sym (d .1) };
       card-grad = record {
-        same = λ κs a b o q c d h. let e = demand3 .1 .same-outcome (card-call κs a) (card-call κs b) h in (c .1 .0 ∙ e .0 ∙ sym (d .1 .0), c .1 .1 ∙ e .1 ∙ sym (d .1 .1));
-        kept = λ κs a o c k z m. ap (λ (xs : List Float). xs ! k) (c .1 .1) ∙ demand3 .1 .slot-kept (card-call κs a) k z m;
+        same = λ κs a b o q c d h. let e = demand3 .1 .same-outcome (card-call κs a) (card-call κs b) h in (c .1 .0 ∙ e .0 ∙ sym (d .1 .0), c .1 .1 .0 ∙ e .1 ∙ sym (d .1 .1 .0));
+        kept = λ κs a o c k z m. ap (λ (xs : List Float). xs ! k) (c .1 .1 .0) ∙ demand3 .1 .slot-kept (card-call κs a) k z m;
       };
       card = record { same = λ κs a b o q c d h g. c .1 ∙ demand3 .1 .same-loss (card-input κs a) (card-input κs b) (card-weights κs a) (card-weights κs b) h g ∙ sym (d .1) };
     }

@@ -7,62 +7,47 @@ use Rattle.analytic_v6.proofs.step.training_step_backward
 use Rattle.analytic_v6.proofs.prefixes.grad.batch_loss_and_grad
 use Rattle.analytic_v6.proofs.cards.grad.card_loss_and_grad
 use Rattle.batch.proofs.run_file
-use Rattle.fsrs6.proofs.places.put_f32
-use Rattle.fsrs6.proofs.places.put_f64
-use Rattle.fsrs6.proofs.places.put_weights
-use Rattle.fsrs6.proofs.formulas_face.curve.fsrs_power_forgetting_curve
-use Rattle.fsrs6.proofs.formulas_face.curve.fsrs_next_interval
-use Rattle.fsrs6.proofs.formulas_face.state.fsrs_next_state
-use Rattle.fsrs6.proofs.formulas_face.weight_set.fsrs_check_and_fill_parameters
-use Rattle.fsrs6.proofs.stability_face.fsrs_stability_after_success
-use Rattle.fsrs6.proofs.stability_face.fsrs_stability_after_failure
-use Rattle.fsrs6.proofs.stability_face.fsrs_stability_short_term
-use Rattle.fsrs6.proofs.difficulty_face.fsrs_init_difficulty
-use Rattle.fsrs6.proofs.difficulty_face.fsrs_mean_reversion
-use Rattle.fsrs6.proofs.difficulty_face.fsrs_next_difficulty
-use Rattle.fsrs6.proofs.step_face.step.fsrs_training_step
-use Rattle.fsrs6.proofs.step_face.step_backward.fsrs_training_step_backward
-use Rattle.fsrs6.proofs.batch_grad.fsrs_batch_loss_and_grad
-use Rattle.fsrs6.proofs.batch_loss.fsrs_batch_loss
-use Rattle.fsrs6.proofs.card_grad.fsrs_card_loss_and_grad
-use Rattle.fsrs6.proofs.card_loss.fsrs_card_loss
-use Rattle.fsrs6.proofs.file_face.fsrs_batch_file
+use Rattle.fsrs6.proofs.study.fsrs_power_forgetting_curve
+use Rattle.fsrs6.proofs.study.fsrs_next_interval
+use Rattle.fsrs6.proofs.study.fsrs_next_state
+use Rattle.fsrs6.proofs.study.fsrs_check_and_fill_parameters
+use Rattle.fsrs6.proofs.study.fsrs_stability_after_success
+use Rattle.fsrs6.proofs.study.fsrs_stability_after_failure
+use Rattle.fsrs6.proofs.study.fsrs_stability_short_term
+use Rattle.fsrs6.proofs.study.fsrs_init_difficulty
+use Rattle.fsrs6.proofs.study.fsrs_mean_reversion
+use Rattle.fsrs6.proofs.study.fsrs_next_difficulty
+use Rattle.fsrs6.proofs.step.fsrs_training_step
+use Rattle.fsrs6.proofs.step.fsrs_training_step_backward
+use Rattle.fsrs6.proofs.prefixes.fsrs_batch_loss_and_grad
+use Rattle.fsrs6.proofs.prefixes.fsrs_batch_loss
+use Rattle.fsrs6.proofs.cards.fsrs_card_loss_and_grad
+use Rattle.fsrs6.proofs.cards.fsrs_card_loss
+use Rattle.fsrs6.proofs.file.fsrs_batch_file
 
 -- These lend by `&mut` and have no refusal: what each leaves is stated by its contract, for every call.
--- never refuse: checks::tables::write checks::tables::write_f64 columns::records::store_step batch::words::fill_words batch::words::fill_singles
--- never refuse: backward::slots::add backward::slots::add_if
--- never refuse: backward::difficulty::backward_difficulty backward::difficulty::backward_init backward::curve::curve_backward
--- never refuse: backward::stability::backward_short backward::failure::backward_failure backward::success::backward_success
--- never refuse: backward::step::step_backward columns::reverse_walk::walk_back columns::stored_path::run_stored columns::stored_scores::run_scored_stored
--- never refuse: columns::ends::target_end columns::ends::last_end
+-- never refuse: checks::tables::write checks::tables::write_f64 columns::records::store_step
+-- never refuse: backward::curve::curve_backward
+-- never refuse: backward::step::step_backward columns::backward_pass::column_backward columns::forward_pass::prefix_forward_recorded columns::forward_pass::card_forward_recorded
+-- never refuse: columns::last_review::target_end columns::last_review::last_end
 
--- analytic_v6
+-- analytic_v6::step
 pub kept-training-step-backward : Kept training_step_backward.Kinds.ps training_step_backward.Kinds.r (λ κs a z. z .refusal) (λ κs e. e) training_step_backward.Reads.Post
 kept-training-step-backward = keeps (λ κs a o c. ap (λ z. z .refusal) (c .0)) (λ κs a o c h. still ⨾ still ⨾ still ⨾ still ⨾ still ⨾ still ⨾ still ⨾ still ⨾ back (c .1 ∙ search refused) ⨾ end)
 
--- prefixes
+-- analytic_v6::prefixes::grad
 pub kept-batch-loss-and-grad : Kept batch_loss_and_grad.Kinds.ps batch_loss_and_grad.Kinds.r (λ κs a z. z .refusal) (λ κs e. e) batch_loss_and_grad.Reads.Post
-kept-batch-loss-and-grad = keeps (λ κs a o c. ap (λ z. z .refusal) (c .0)) (λ κs a o c h. still ⨾ still ⨾ still ⨾ still ⨾ still ⨾ still ⨾ still ⨾ still ⨾ still ⨾ back (c .1 ∙ search refused) ⨾ back (c .2 ∙ search refused) ⨾ end)
+kept-batch-loss-and-grad = keeps (λ κs a o c. ap (λ z. z .refusal) (c .0)) (λ κs a o c h. still ⨾ still ⨾ still ⨾ still ⨾ still ⨾ still ⨾ still ⨾ still ⨾ still ⨾ back (c .1 .0 ∙ search refused) ⨾ back (c .1 .1 ∙ search refused) ⨾ end)
 
--- cards
+-- analytic_v6::cards::grad
 pub kept-card-loss-and-grad : Kept card_loss_and_grad.Kinds.ps card_loss_and_grad.Kinds.r (λ κs a z. z .refusal) (λ κs e. e) card_loss_and_grad.Reads.Post
-kept-card-loss-and-grad = keeps (λ κs a o c. ap (λ z. z .refusal) (c .0)) (λ κs a o c h. still ⨾ still ⨾ still ⨾ still ⨾ still ⨾ still ⨾ still ⨾ still ⨾ back (c .1 ∙ search refused) ⨾ back (c .2 ∙ search refused) ⨾ back (c .3 ∙ search refused) ⨾ end)
+kept-card-loss-and-grad = keeps (λ κs a o c. ap (λ z. z .refusal) (c .0)) (λ κs a o c h. still ⨾ still ⨾ still ⨾ still ⨾ still ⨾ still ⨾ still ⨾ still ⨾ back (c .1 .0 ∙ search refused) ⨾ back (c .1 .1 ∙ search refused) ⨾ back (c .1 .2 ∙ search refused) ⨾ end)
 
 -- batch
 pub kept-run-file : Kept run_file.Kinds.ps run_file.Kinds.r (λ κs a z. z .refusal) (λ κs e. e) run_file.Reads.Post
 kept-run-file = keeps (λ κs a o c. ap (λ z. z .refusal) (c .0)) (λ κs a o c h. still ⨾ back (c .1 ∙ search refused) ⨾ end)
 
--- places
-pub kept-put-f32 : Kept put_f32.Kinds.ps put_f32.Kinds.r (λ κs a z. a .1 .0) (λ κs e. e) put_f32.Reads.Post
-kept-put-f32 = keeps (λ κs a o c. refl) (λ κs a o c h. back (c ∙ search refused) ⨾ still ⨾ still ⨾ end)
-
-pub kept-put-f64 : Kept put_f64.Kinds.ps put_f64.Kinds.r (λ κs a z. a .1 .0) (λ κs e. e) put_f64.Reads.Post
-kept-put-f64 = keeps (λ κs a o c. refl) (λ κs a o c h. back (c ∙ search refused) ⨾ still ⨾ still ⨾ end)
-
-pub kept-put-weights : Kept put_weights.Kinds.ps put_weights.Kinds.r (λ κs a z. a .1 .0) (λ κs e. e) put_weights.Reads.Post
-kept-put-weights = keeps (λ κs a o c. refl) (λ κs a o c h. back (c ∙ search refused) ⨾ still ⨾ still ⨾ end)
-
--- fsrs6_formulas
+-- fsrs6::study
 pub kept-fsrs-power-forgetting-curve : Kept fsrs_power_forgetting_curve.Kinds.ps fsrs_power_forgetting_curve.Kinds.r (λ κs a n. n) (λ κs e. e) fsrs_power_forgetting_curve.Reads.Post
 kept-fsrs-power-forgetting-curve = keeps (λ κs a o c. c .0) (λ κs a o c h. still ⨾ still ⨾ still ⨾ back (c .1 ∙ search refused) ⨾ end)
 
@@ -95,26 +80,27 @@ kept-fsrs-mean-reversion = keeps (λ κs a o c. c .0) (λ κs a o c h. still ⨾
 pub kept-fsrs-next-difficulty : Kept fsrs_next_difficulty.Kinds.ps fsrs_next_difficulty.Kinds.r (λ κs a n. n) (λ κs e. e) fsrs_next_difficulty.Reads.Post
 kept-fsrs-next-difficulty = keeps (λ κs a o c. c .0) (λ κs a o c h. still ⨾ still ⨾ still ⨾ back (c .1 ∙ search refused) ⨾ end)
 
--- fsrs6_step
+-- fsrs6::step
 pub kept-fsrs-training-step : Kept fsrs_training_step.Kinds.ps fsrs_training_step.Kinds.r (λ κs a n. n) (λ κs e. e) fsrs_training_step.Reads.Post
 kept-fsrs-training-step = keeps (λ κs a o c. c .0) (λ κs a o c h. still ⨾ still ⨾ still ⨾ still ⨾ still ⨾ still ⨾ back (c .1 ∙ search refused) ⨾ back (c .2 ∙ search refused) ⨾ back (c .3 ∙ search refused) ⨾ end)
 
 pub kept-fsrs-training-step-backward : Kept fsrs_training_step_backward.Kinds.ps fsrs_training_step_backward.Kinds.r (λ κs a n. n) (λ κs e. e) fsrs_training_step_backward.Reads.Post
 kept-fsrs-training-step-backward = keeps (λ κs a o c. c .0) (λ κs a o c h. still ⨾ still ⨾ still ⨾ still ⨾ still ⨾ still ⨾ still ⨾ still ⨾ still ⨾ back (c .1 ∙ search refused) ⨾ back (c .2 ∙ search refused) ⨾ back (c .3 ∙ search refused) ⨾ end)
 
--- fsrs6_losses
+-- fsrs6::prefixes
 pub kept-fsrs-batch-loss-and-grad : Kept fsrs_batch_loss_and_grad.Kinds.ps fsrs_batch_loss_and_grad.Kinds.r (λ κs a n. n) (λ κs e. e) fsrs_batch_loss_and_grad.Reads.Post
-kept-fsrs-batch-loss-and-grad = keeps (λ κs a o c. c .0) (λ κs a o c h. still ⨾ still ⨾ still ⨾ still ⨾ still ⨾ still ⨾ still ⨾ still ⨾ still ⨾ back (c .1 ∙ search refused) ⨾ back (c .2 ∙ search refused) ⨾ back (c .3 ∙ search refused) ⨾ end)
+kept-fsrs-batch-loss-and-grad = keeps (λ κs a o c. c .0 .0) (λ κs a o c h. still ⨾ still ⨾ still ⨾ still ⨾ still ⨾ still ⨾ still ⨾ still ⨾ still ⨾ back (c .1 .0 ∙ search refused) ⨾ back (c .1 .1 ∙ search refused) ⨾ back (c .0 .1 ∙ search refused) ⨾ end)
 
 pub kept-fsrs-batch-loss : Kept fsrs_batch_loss.Kinds.ps fsrs_batch_loss.Kinds.r (λ κs a n. n) (λ κs e. e) fsrs_batch_loss.Reads.Post
 kept-fsrs-batch-loss = keeps (λ κs a o c. c .0) (λ κs a o c h. still ⨾ still ⨾ still ⨾ still ⨾ still ⨾ still ⨾ still ⨾ still ⨾ still ⨾ back (c .1 ∙ search refused) ⨾ end)
 
+-- fsrs6::cards
 pub kept-fsrs-card-loss-and-grad : Kept fsrs_card_loss_and_grad.Kinds.ps fsrs_card_loss_and_grad.Kinds.r (λ κs a n. n) (λ κs e. e) fsrs_card_loss_and_grad.Reads.Post
-kept-fsrs-card-loss-and-grad = keeps (λ κs a o c. c .0) (λ κs a o c h. still ⨾ still ⨾ still ⨾ still ⨾ still ⨾ still ⨾ still ⨾ still ⨾ back (c .1 ∙ search refused) ⨾ back (c .2 ∙ search refused) ⨾ back (c .3 ∙ search refused) ⨾ back (c .4 ∙ search refused) ⨾ end)
+kept-fsrs-card-loss-and-grad = keeps (λ κs a o c. c .0 .0) (λ κs a o c h. still ⨾ still ⨾ still ⨾ still ⨾ still ⨾ still ⨾ still ⨾ still ⨾ back (c .1 .0 ∙ search refused) ⨾ back (c .1 .1 ∙ search refused) ⨾ back (c .1 .2 ∙ search refused) ⨾ back (c .0 .1 ∙ search refused) ⨾ end)
 
 pub kept-fsrs-card-loss : Kept fsrs_card_loss.Kinds.ps fsrs_card_loss.Kinds.r (λ κs a n. n) (λ κs e. e) fsrs_card_loss.Reads.Post
 kept-fsrs-card-loss = keeps (λ κs a o c. c .0) (λ κs a o c h. still ⨾ still ⨾ still ⨾ still ⨾ still ⨾ still ⨾ still ⨾ still ⨾ back (c .1 ∙ search refused) ⨾ end)
 
--- fsrs6_file
+-- fsrs6::file
 pub kept-fsrs-batch-file : Kept fsrs_batch_file.Kinds.ps fsrs_batch_file.Kinds.r (λ κs a n. n) (λ κs e. e) fsrs_batch_file.Reads.Post
-kept-fsrs-batch-file = keeps (λ κs a o c. c .0) (λ κs a o c h. still ⨾ back (c .1 ∙ search refused) ⨾ back (c .2 ∙ search refused) ⨾ end)
+kept-fsrs-batch-file = keeps (λ κs a o c. c .0 .0) (λ κs a o c h. still ⨾ back (c .1 ∙ search refused) ⨾ back (c .0 .1 ∙ search refused) ⨾ end)

@@ -4,24 +4,15 @@ use Rattle.outcomes.specs.Outcome.{One, one}
 use Rattle.outcomes.proofs.Tuples.{_⨾_, none, end}
 use Rattle.outcomes.proofs.Words.{words}
 use Rattle.soft.proofs.wide.product
-use Rattle.soft.proofs.shifts.shl
 use Rattle.soft.proofs.shifts.shr
-use Rattle.soft.proofs.shifts.lost
 use Rattle.soft.proofs.wide.sum
 use Rattle.soft.proofs.wide.difference
-use Rattle.soft.proofs.wide.less
 use Rattle.soft.proofs.shifts.digits64
-use Rattle.soft.proofs.shifts.digits
-use Rattle.soft.proofs.decode.decode_f64
-use Rattle.soft.proofs.decode.decode_f32
 use Rattle.soft.proofs.units.pattern
 use Rattle.soft.proofs.units.measure
 use Rattle.soft.proofs.units.is_finite
 use Rattle.soft.proofs.half_away.round_f64
 use Rattle.soft.proofs.half_away.round_f32
-use Rattle.soft.proofs.narrow.narrow
-use Rattle.soft.proofs.pack.pack_f64
-use Rattle.soft.proofs.pack.pack_f32
 use Rattle.soft.proofs.pack.pack_wide_f64
 use Rattle.soft.proofs.pack.pack_wide_f32
 use Rattle.soft.proofs.fma.fma_f64
@@ -30,49 +21,32 @@ use Rattle.table.proofs.entry_at
 use Rattle.table.proofs.starts.start_at
 use Rattle.kernels.proofs.exp.exp_f64
 use Rattle.kernels.proofs.exp.exp_f32
-use Rattle.kernels.proofs.exp.raised_f64
-use Rattle.kernels.proofs.exp.raised_f32
-use Rattle.kernels.proofs.both.pow_ln_f64
+use Rattle.kernels.proofs.pow_ln.pow_ln_f64
 use Rattle.kernels.proofs.ln.ln_f64
 use Rattle.kernels.proofs.ln.ln_f32
 use Rattle.kernels.proofs.pow.pow_f64
 use Rattle.kernels.proofs.pow.pow_f32
 
--- wide
+-- soft::wide
 pub one-product : One product.Kinds.ps product.Kinds.r product.Reads.Post
 one-product = record { same = λ κs a o o′ c c′. words κs (c .0) (c′ .0) (c .1 ∙ sym (c′ .1)) refl }
 
-pub one-shl : One shl.Kinds.ps shl.Kinds.r shl.Reads.Post
-one-shl = record { same = λ κs a o o′ c c′. words κs (c .0) (c′ .0) (c .1 ∙ sym (c′ .1)) refl }
-
+-- soft::shifts
 pub one-shr : One shr.Kinds.ps shr.Kinds.r shr.Reads.Post
 one-shr = record { same = λ κs a o o′ c c′. words κs (c .0) (c′ .0) (c .1 ∙ sym (c′ .1)) refl }
 
-pub one-lost : One lost.Kinds.ps lost.Kinds.r lost.Reads.Post
-one-lost = one (λ κs a o c. c ⨾ none ⨾ none ⨾ end)
-
+-- soft::wide
 pub one-sum : One sum.Kinds.ps sum.Kinds.r sum.Reads.Post
 one-sum = record { same = λ κs a o o′ c c′. words κs (c .0) (c′ .0) (c .1 ∙ sym (c′ .1)) refl }
 
 pub one-difference : One difference.Kinds.ps difference.Kinds.r difference.Reads.Post
 one-difference = record { same = λ κs a o o′ c c′. words κs (c .0) (c′ .0) (c .1 ∙ sym (c′ .1)) refl }
 
-pub one-less : One less.Kinds.ps less.Kinds.r less.Reads.Post
-one-less = one (λ κs a o c. c ⨾ none ⨾ none ⨾ end)
-
+-- soft::shifts
 pub one-digits64 : One digits64.Kinds.ps digits64.Kinds.r digits64.Reads.Post
 one-digits64 = one (λ κs a o c. c ⨾ none ⨾ end)
 
-pub one-digits : One digits.Kinds.ps digits.Kinds.r digits.Reads.Post
-one-digits = one (λ κs a o c. c ⨾ none ⨾ end)
-
--- parts
-pub one-decode-f64 : One decode_f64.Kinds.ps decode_f64.Kinds.r decode_f64.Reads.Post
-one-decode-f64 = one (λ κs a o c. c ⨾ none ⨾ end)
-
-pub one-decode-f32 : One decode_f32.Kinds.ps decode_f32.Kinds.r decode_f32.Reads.Post
-one-decode-f32 = one (λ κs a o c. c ⨾ none ⨾ end)
-
+-- soft::units
 pub one-pattern : One pattern.Kinds.ps pattern.Kinds.r pattern.Reads.Post
 one-pattern = one (λ κs a o c. c ⨾ none ⨾ end)
 
@@ -82,30 +56,21 @@ one-measure = one (λ κs a o c. c ⨾ none ⨾ end)
 pub one-is-finite : One is_finite.Kinds.ps is_finite.Kinds.r is_finite.Reads.Post
 one-is-finite = one (λ κs a o c. c ⨾ none ⨾ end)
 
--- half_away
+-- soft::half_away
 pub one-round-f64 : One round_f64.Kinds.ps round_f64.Kinds.r round_f64.Reads.Post
 one-round-f64 = one (λ κs a o c. c ⨾ none ⨾ end)
 
 pub one-round-f32 : One round_f32.Kinds.ps round_f32.Kinds.r round_f32.Reads.Post
 one-round-f32 = one (λ κs a o c. c ⨾ none ⨾ end)
 
--- soft
-pub one-narrow : One narrow.Kinds.ps narrow.Kinds.r narrow.Reads.Post
-one-narrow = one (λ κs a o c. c ⨾ none ⨾ end)
-
-pub one-pack-f64 : One pack_f64.Kinds.ps pack_f64.Kinds.r pack_f64.Reads.Post
-one-pack-f64 = one (λ κs a o c. c ⨾ none ⨾ none ⨾ none ⨾ none ⨾ end)
-
-pub one-pack-f32 : One pack_f32.Kinds.ps pack_f32.Kinds.r pack_f32.Reads.Post
-one-pack-f32 = one (λ κs a o c. c ⨾ none ⨾ none ⨾ none ⨾ none ⨾ end)
-
+-- soft::pack
 pub one-pack-wide-f64 : One pack_wide_f64.Kinds.ps pack_wide_f64.Kinds.r pack_wide_f64.Reads.Post
 one-pack-wide-f64 = one (λ κs a o c. c ⨾ none ⨾ none ⨾ none ⨾ end)
 
 pub one-pack-wide-f32 : One pack_wide_f32.Kinds.ps pack_wide_f32.Kinds.r pack_wide_f32.Reads.Post
 one-pack-wide-f32 = one (λ κs a o c. c ⨾ none ⨾ none ⨾ none ⨾ end)
 
--- fma
+-- soft::fma
 pub one-fma-f64 : One fma_f64.Kinds.ps fma_f64.Kinds.r fma_f64.Reads.Post
 one-fma-f64 = one (λ κs a o c. c ⨾ none ⨾ none ⨾ none ⨾ end)
 
@@ -116,33 +81,29 @@ one-fma-f32 = one (λ κs a o c. c ⨾ none ⨾ none ⨾ none ⨾ end)
 pub one-entry-at : One entry_at.Kinds.ps entry_at.Kinds.r entry_at.Reads.Post
 one-entry-at = one (λ κs a o c. c ⨾ none ⨾ end)
 
--- starts
+-- table::starts
 pub one-start-at : One start_at.Kinds.ps start_at.Kinds.r start_at.Reads.Post
 one-start-at = one (λ κs a o c. c ⨾ none ⨾ end)
 
--- exp
+-- kernels::exp
 pub one-exp-f64 : One exp_f64.Kinds.ps exp_f64.Kinds.r exp_f64.Reads.Post
 one-exp-f64 = one (λ κs a o c. c ⨾ none ⨾ end)
 
 pub one-exp-f32 : One exp_f32.Kinds.ps exp_f32.Kinds.r exp_f32.Reads.Post
 one-exp-f32 = one (λ κs a o c. c ⨾ none ⨾ end)
 
-pub one-raised-f64 : One raised_f64.Kinds.ps raised_f64.Kinds.r raised_f64.Reads.Post
-one-raised-f64 = one (λ κs a o c. c ⨾ none ⨾ none ⨾ end)
-
-pub one-raised-f32 : One raised_f32.Kinds.ps raised_f32.Kinds.r raised_f32.Reads.Post
-one-raised-f32 = one (λ κs a o c. c ⨾ none ⨾ none ⨾ end)
-
--- ln_pow
+-- kernels::pow_ln
 pub one-pow-ln-f64 : One pow_ln_f64.Kinds.ps pow_ln_f64.Kinds.r pow_ln_f64.Reads.Post
 one-pow-ln-f64 = one (λ κs a o c. c ⨾ none ⨾ none ⨾ end)
 
+-- kernels::ln
 pub one-ln-f64 : One ln_f64.Kinds.ps ln_f64.Kinds.r ln_f64.Reads.Post
 one-ln-f64 = one (λ κs a o c. c ⨾ none ⨾ end)
 
 pub one-ln-f32 : One ln_f32.Kinds.ps ln_f32.Kinds.r ln_f32.Reads.Post
 one-ln-f32 = one (λ κs a o c. c ⨾ none ⨾ end)
 
+-- kernels::pow
 pub one-pow-f64 : One pow_f64.Kinds.ps pow_f64.Kinds.r pow_f64.Reads.Post
 one-pow-f64 = one (λ κs a o c. c ⨾ none ⨾ none ⨾ end)
 

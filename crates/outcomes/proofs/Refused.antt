@@ -2,26 +2,24 @@
 use Prim.Native.Nat.{ℕ}
 use mathlib.Core.Bool.{Bool, true, false, cond}
 use mathlib.Core.List.{List}
-use mathlib.Core.Path.{_≡_, refl, sym, subst}
+use mathlib.Core.Path.{_≡_, refl, sym}
 use borrow.Author.Tests.{eq-eqb, ne-eqb}
 use lib.Dec.{eqb}
-use lib.Ieee.{Float, nan}
-use lib.ListN.{length, replicate, length-replicate}
+use lib.Ieee.{Float}
+use lib.ListN.{length}
 use Rattle.fsrs6.specs.Places.{written}
 use Rattle.fsrs6.specs.Numbers.{recorded}
-use Rattle.forward.specs.declared.step.StepRecord.{StepRecord}
-use Rattle.forward.specs.declared.stability.State.{State}
+use Rattle.forward.specs.declared.state.StepRecord.{StepRecord}
+use Rattle.forward.specs.declared.state.State.{State}
 use Rattle.analytic_v6.specs.Step.{reverseRefusal, trainingReverse, reverseSlots}
 use Rattle.analytic_v6.proofs.Entry.{slots-refused}
-use Rattle.columns.specs.Ends.{answer}
-use Rattle.columns.specs.declared.ends.Loss.{Loss}
+use Rattle.analytic_v6.specs.Answers.{answer}
+use Rattle.analytic_v6.specs.declared.answers.Loss.{Loss}
 use Rattle.checks.specs.Batch.{Prefixes, Cards}
 use Rattle.analytic_v6.specs.Prefixes.{batchLossAndGrad, batchSlots, batchRecords}
-use Rattle.analytic_v6.proofs.prefixes.Laws as prefix-laws
 use Rattle.analytic_v6.specs.Cards.{cardsLossAndGrad, cardsSlots, cardsRecords, cardsGrads}
-use Rattle.analytic_v6.proofs.cards.Laws as card-laws
 use Rattle.batch.specs.Header.{sectionsOf, wellFormed}
-use Rattle.batch.specs.declared.headers.Header.{Header}
+use Rattle.batch.specs.declared.header.Header.{Header}
 use Rattle.batch.specs.File.{prefixLossIn, prefixSlotsIn, cardLossIn, cardSlotsIn, callLoss, callSlots, cellsOf, lengthsOf, fileLoss, fileSlots}
 
 -- ---- a lent place, and the ten numbers of a record
@@ -43,39 +41,36 @@ module _ (w : List Float) (q : State) (day rating : Float) (row : ℕ) (g-s g-d 
   reverse-slots gw h = sym (slots-refused w q day rating row g-s g-d g-r gw _ refl (λ z. h (accepted (length gw) z)))
 
 -- ---- the loss of a batch of prefixes
-module _ (w : List Float) (x : Prefixes) (gw records : List Float) where
-  prefix-slots-of : (batchLossAndGrad w x (length gw) (length records) .refusal ≡ 0 → ⊥) → batchSlots w x gw (length records) ≡ gw
-  unfolding batchLossAndGrad answer
-  prefix-slots-of h = prefix-laws.refused-slots w x gw records h
+module _ (w : List Float) (x : Prefixes) where
+  pub prefix-slots :
+      (gw : List Float) (records : ℕ) → (batchLossAndGrad w x (length gw) records .refusal ≡ 0 → ⊥) → batchSlots w x gw records ≡ gw
+  unfolding batchLossAndGrad batchSlots answer
+  prefix-slots gw records h = rw (ne-eqb _ 0 h)
 
-  pub prefix-records : (batchLossAndGrad w x (length gw) (length records) .refusal ≡ 0 → ⊥) → batchRecords w x (length gw) records ≡ records
-  unfolding batchLossAndGrad answer
-  prefix-records h = prefix-laws.refused-records w x gw records h
-
--- the same for a number of singles in place of the records themselves
-pub prefix-slots : (w : List Float) (x : Prefixes) (gw : List Float) (records : ℕ) → (batchLossAndGrad w x (length gw) records .refusal ≡ 0 → ⊥) → batchSlots w x gw records ≡ gw
-prefix-slots w x gw records =
-    subst (λ (k : ℕ). (batchLossAndGrad w x (length gw) k .refusal ≡ 0 → ⊥) → batchSlots w x gw k ≡ gw) (length-replicate records nan) (prefix-slots-of w x gw (replicate records nan))
+  pub prefix-records :
+      (gw : ℕ) (records : List Float) → (batchLossAndGrad w x gw (length records) .refusal ≡ 0 → ⊥) → batchRecords w x gw records ≡ records
+  unfolding batchLossAndGrad batchRecords answer
+  prefix-records gw records h = rw (ne-eqb _ 0 h)
 
 -- ---- the loss of a batch of cards
-module _ (w : List Float) (x : Cards) (gw records grads : List Float) where
-  card-slots-of : (cardsLossAndGrad w x (length gw) (length records) (length grads) .refusal ≡ 0 → ⊥) → cardsSlots w x gw (length records) (length grads) ≡ gw
-  unfolding cardsLossAndGrad answer
-  card-slots-of h = card-laws.refused-slots w x gw records grads h
+module _ (w : List Float) (x : Cards) where
+  pub card-slots :
+      (gw : List Float) (records grads : ℕ) → (cardsLossAndGrad w x (length gw) records grads .refusal ≡ 0 → ⊥) →
+      cardsSlots w x gw records grads ≡ gw
+  unfolding cardsLossAndGrad cardsSlots answer
+  card-slots gw records grads h = rw (ne-eqb _ 0 h)
 
-  pub card-records : (cardsLossAndGrad w x (length gw) (length records) (length grads) .refusal ≡ 0 → ⊥) → cardsRecords w x (length gw) records (length grads) ≡ records
-  unfolding cardsLossAndGrad answer
-  card-records h = card-laws.refused-records w x gw records grads h
+  pub card-records :
+      (gw : ℕ) (records : List Float) (grads : ℕ) → (cardsLossAndGrad w x gw (length records) grads .refusal ≡ 0 → ⊥) →
+      cardsRecords w x gw records grads ≡ records
+  unfolding cardsLossAndGrad cardsRecords answer
+  card-records gw records grads h = rw (ne-eqb _ 0 h)
 
-  pub card-grads : (cardsLossAndGrad w x (length gw) (length records) (length grads) .refusal ≡ 0 → ⊥) → cardsGrads w x (length gw) (length records) grads ≡ grads
-  unfolding cardsLossAndGrad answer
-  card-grads h = card-laws.refused-grads w x gw records grads h
-
-pub card-slots : (w : List Float) (x : Cards) (gw : List Float) (records grads : ℕ) → (cardsLossAndGrad w x (length gw) records grads .refusal ≡ 0 → ⊥) → cardsSlots w x gw records grads ≡ gw
-card-slots w x gw records grads =
-    subst (λ (k : ℕ). (cardsLossAndGrad w x (length gw) k grads .refusal ≡ 0 → ⊥) → cardsSlots w x gw k grads ≡ gw) (length-replicate records nan)
-    (subst (λ (k : ℕ). (cardsLossAndGrad w x (length gw) (length (replicate records nan)) k .refusal ≡ 0 → ⊥) → cardsSlots w x gw (length (replicate records nan)) k ≡ gw) (length-replicate grads nan)
-    (card-slots-of w x gw (replicate records nan) (replicate grads nan)))
+  pub card-grads :
+      (gw records : ℕ) (grads : List Float) → (cardsLossAndGrad w x gw records (length grads) .refusal ≡ 0 → ⊥) →
+      cardsGrads w x gw records grads ≡ grads
+  unfolding cardsLossAndGrad cardsGrads answer
+  card-grads gw records grads h = rw (ne-eqb _ 0 h)
 
 -- ---- a batch file
 module _ (h : Header) (cells : List Float) (lens : List ℕ) (gw : List Float) where

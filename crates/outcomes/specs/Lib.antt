@@ -1,2 +1,2 @@
+pub mod FrozenEntries
 pub mod Outcome
-pub mod Frozen

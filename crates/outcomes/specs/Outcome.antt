@@ -1,4 +1,5 @@
--- What it is for a contract to leave one outcome, and for a refused call to leave what was lent to it as it was. Document 01 asks both of every public function, and proofs/ has a line for each. Assumes nothing.
+-- What it is for a contract to leave one outcome, and for a refused call to leave what was lent to it as it was. Document 01 asks
+-- both of every public function, and proofs/ has a line for each. Assumes nothing.
 use Prim.Native.Nat.{ℕ}
 use mathlib.Core.List.{List}
 use mathlib.Core.Path.{_≡_, sym, _∙_, subst}
@@ -10,11 +11,14 @@ use borrow.Fn.Kinds.{PK, RK, Out, Dens, resT, endedOf}
 abbrev pub Refused : ℕ → Type 0
 Refused k = k ≡ 0 → ⊥
 
--- A function has n lifetimes, parameters of the kinds ps and an answer of the kind r. Its contract C is the claim of its own `ensures`, which the kit hands out as `Post`:
--- C κs a z e is said of a call's lifetimes κs, its arguments a, its answer z and the parameters e as the call leaves them. The kit's names: Dens κs ps are the arguments, resT r κs .Denot the answers,
+-- A function has n lifetimes, parameters of the kinds ps and an answer of the kind r. Its contract C is the claim of its own
+-- `ensures`, which the kit hands out as `Post`:
+-- C κs a z e is said of a call's lifetimes κs, its arguments a, its answer z and the parameters e as the call leaves them. The
+-- kit's names: Dens κs ps are the arguments, resT r κs .Denot the answers,
 -- Lasts .. κs a what a call can leave in that which it was lent, and atExit .. κs a ws its parameters then.
 module _ {n : ℕ} (ps : List (PK n)) (r : RK n) where
-  -- 'the returned value and the final contents of every lent slice', where the arguments are a: the answer, and for each parameter in turn the final content of what it lends by `&mut`.
+  -- 'the returned value and the final contents of every lent slice', where the arguments are a: the answer, and for each parameter
+  -- in turn the final content of what it lends by `&mut`.
   -- A parameter that lends nothing so has the one element of `Unit` there
   abbrev pub Outcome : (κs : Lfts n) → Dens κs ps → Type 0
   Outcome κs a = resT r κs .Denot × Lasts (endedOf n ps r) κs a
@@ -31,12 +35,15 @@ module _ {n : ℕ} (ps : List (PK n)) (r : RK n) where
   abbrev pub Satisfies : Out n ps r → (κs : Lfts n) (a : Dens κs ps) → Outcome κs a → Type 0
   Satisfies C κs a o = r .is .Ok κs (o .0) × Claims C κs a o
 
-  -- 'Each public contract determines the returned value and the final contents of every lent slice, for accepted and refused calls alike; show that no second outcome satisfies it'
+  -- 'Each public contract determines the returned value and the final contents of every lent slice, for accepted and refused calls
+  -- alike; show that no second outcome satisfies it'
   pub record One (C : Out n ps r) : Type 0 where
     pub same : (κs : Lfts n) (a : Dens κs ps) (o o′ : Outcome κs a) → Satisfies C κs a o → Satisfies C κs a o′ → o ≡ o′
 
-  -- 'A refusal [..] writes nothing': if the call's number is a refusal's, then every parameter is left as it was passed, each lent slice and place with its content.
-  -- number: where the call's number stands, in its answer or its arguments. same-type: what a call leaves of its parameters, read as arguments. It is the identity in every line, for the two types are one
+  -- 'A refusal [..] writes nothing': if the call's number is a refusal's, then every parameter is left as it was passed, each lent
+  -- slice and place with its content.
+  -- number: where the call's number stands, in its answer or its arguments. same-type: what a call leaves of its parameters, read
+  -- as arguments. It is the identity in every line, for the two types are one
   pub record Kept
       (number : (κs : Lfts n) → Dens κs ps → resT r κs .Denot → ℕ) (same-type : (κs : Lfts n) → AtExit (endedOf n ps r) κs → Dens κs ps)
       (C : Out n ps r) : Type 0 where

@@ -10,11 +10,11 @@ use Rattle.soft.specs.Fma.{fmaDef, times, plus}
 use Rattle.soft.specs.HalfAway.{roundDef}
 use Rattle.kernels.specs.Calls.{exp32}
 use Rattle.domain.specs.Weights.{_!_}
-use Rattle.forward.specs.declared.stability.State.{State}
+use Rattle.forward.specs.declared.state.State.{State}
 use Rattle.forward.specs.Step.{clampState, paddingDef, stepDef}
 use Rattle.columns.specs.Scores.{MIN_PROB, MAX_PROB, noScore, scoreDef}
 use Rattle.checks.specs.Reads.{check, first, prefixRow, cardRow, targetDef}
-use Rattle.columns.specs.Ends.{targetLoss, targetGrad, targetSlots}
+use Rattle.columns.specs.LastReview.{targetLoss, targetGrad, targetSlots}
 use Rattle.laws.proofs.Values.Defaults.{single, boxed, first-state}
 use Rattle.laws.proofs.Values.Steps.{Ready, same-stability, same-branch, lapse-stability, lapse-branch, early-stability, same-difficulty}
 use Rattle.promises.specs.Twelve.{Weights, InRange, Value1, Value2, Value3, Value4, Value5, Value6, Value7, Value8, Value9, Value10, Value11, Value12, NextDay, InPrefix, InCard, InTarget, last, next, Twelve}

@@ -1,4 +1,5 @@
--- Demand 3: 'This lets me freeze weights that a deck says nothing about.' Numbers are equal here when their bits are, but that all NaNs are one value: so what agrees bit for bit is equal, and outcomes are compared as in demand 2. Assumes nothing.
+-- Demand 3: 'This lets me freeze weights that a deck says nothing about.' Numbers are equal here when their bits are, but that all
+-- NaNs are one value: so what agrees bit for bit is equal, and outcomes are compared as in demand 2. Assumes nothing.
 use Prim.Native.Nat.{ℕ}
 use mathlib.Core.Bool.{Bool, true, false}
 use mathlib.Core.List.{List}
@@ -8,11 +9,12 @@ use lib.Ieee.{Float}
 use lib.ListN.{length, set}
 use Rattle.domain.specs.Weights.{_!_, inBox, weightsRefusal}
 use Rattle.checks.specs.Batch.{lengthAt}
-use Rattle.promises.specs.Reads.{Slice, callReads, callMoves}
-use Rattle.promises.specs.Calls.{Call, Kind, prefixes, cards}
+use Rattle.promises.specs.CallReads.{Slice, callReads, callMoves}
+use Rattle.promises.specs.LossCalls.{Call, Kind, prefixes, cards}
 
 module _ (K : Kind) where
-  -- 'two loss calls of one kind with equal sizes, equal column lengths' that 'agree on every cell .. that document 01 counts as read'; its 'sizes are rows, columns and the length of each input slice'
+  -- 'two loss calls of one kind with equal sizes, equal column lengths' that 'agree on every cell .. that document 01 counts as
+  -- read'; its 'sizes are rows, columns and the length of each input slice'
   pub record SameInputs (x y : K .Input) : Type 0 where
     pub rows : K .table x .rows ≡ K .table y .rows
     pub columns : K .table x .columns ≡ K .table y .columns
@@ -60,7 +62,8 @@ module _ (K : Kind) where
     -- A weight that no column reads may take any value inside the box: no loss and no gradient changes, and its own slot stays as it was.
     pub unread-weight :
         (c : Call (K .Input)) (k : ℕ) → K .refusal c ≡ 0 → weightRead c k ≡ false →
-        ((a : Float) → inBox k a ≡ true → (K .answer (with-weight c k a) ≡ K .answer c) × (K .slots (with-weight c k a) ≡ K .slots c)) × (K .slots c ! k ≡ c .gw ! k)
+        ((a : Float) → inBox k a ≡ true → (K .answer (with-weight c k a) ≡ K .answer c) × (K .slots (with-weight c k a) ≡ K .slots c)) ×
+        (K .slots c ! k ≡ c .gw ! k)
 
 -- for both kinds
 abbrev pub Demand3 : Type 0

@@ -1,5 +1,5 @@
-pub mod Calls
+pub mod CallReads
 pub mod Frozen
+pub mod LossCalls
 pub mod Promises
-pub mod Reads
 pub mod Twelve

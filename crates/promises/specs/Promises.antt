@@ -1,11 +1,12 @@
--- What is promised of the definitions that the code is proved to equal. docs/PROMISES.md tells it in words, with what crates/outcomes says of the contracts themselves. Assumes nothing.
+-- What is promised of the definitions that the code is proved to equal. docs/PROMISES.md tells it in words, with what
+-- crates/outcomes says of the contracts themselves. Assumes nothing.
 use lib.Ieee.{Format}
-use Rattle.laws.specs.Kernels.{Kernels}
+use Rattle.laws.specs.Distances.{Kernels}
 use Rattle.promises.specs.Twelve.{Twelve}
 use Rattle.promises.specs.Frozen.{Demand3}
 
 pub record Promises : Type 0 where
-  -- demand 2: exp, ln and pow 'lie within document 01's distances of its exact fractions', in single and in double (distances/specs/Kernels.antt)
+  -- demand 2: exp, ln and pow 'lie within document 01's distances of its exact fractions', in single and in double (laws/specs/Distances.antt)
   pub distances : (f : Format) → Kernels f
   -- document 01's 'Values to prove (one theorem over the list)' (Twelve.antt)
   pub twelve-values : Twelve

@@ -1,6 +1,8 @@
--- Document 01, 'Values to prove (one theorem over the list)': the twelve values, each under its words there. A float is a NaN, an infinity, or `fin s m e`, the number m * 2 ^ e, negative
--- where s is true; `minus 0 k` is the exponent -k. `fits f x` says that x is a value of the format f, and `eq` is IEEE 754's equality. `decimal n d` is the single nearest to n / d, and
--- `zero32`, `one`, `three` are the singles 0, 1, 3. The proofs are in the crate `values` and in proofs/Twelve.antt. Assumes nothing.
+-- Document 01, 'Values to prove (one theorem over the list)': the twelve values, each under its words there. A float is a NaN, an
+-- infinity, or `fin s m e`, the number m * 2 ^ e, negative
+-- where s is true; `minus 0 k` is the exponent -k. `fits f x` says that x is a value of the format f, and `eq` is IEEE 754's
+-- equality. `decimal n d` is the single nearest to n / d, and
+-- `zero32`, `one`, `three` are the singles 0, 1, 3. The proofs are in laws/proofs/Values and in proofs/Twelve.antt. Assumes nothing.
 use mathlib.Core.Path.{_≡_}
 use mathlib.Core.Bool.{true, false}
 use mathlib.Core.List.{List, [], _∷_}
@@ -16,13 +18,13 @@ use Rattle.kernels.specs.Kernels.{expDef}
 use Rattle.domain.specs.Weights.{_!_, weightsRefusal, FSRS6_DEFAULT_PARAMETERS}
 use Rattle.forward.specs.Params.{paramsDef}
 use Rattle.forward.specs.declared.parameters.RuntimeParams.{RuntimeParams}
-use Rattle.forward.specs.declared.stability.State.{State}
-use Rattle.forward.specs.declared.stability.Branch.the-variants.{SameDay, Lapse}
+use Rattle.forward.specs.declared.state.State.{State}
+use Rattle.forward.specs.declared.state.Branch.the-variants.{SameDay, Lapse}
 use Rattle.forward.specs.Step.{stepDef}
-use Rattle.forward.specs.declared.step.Stepped.{Stepped}
+use Rattle.forward.specs.declared.state.Stepped.{Stepped}
 use Rattle.columns.specs.Scores.{MAX_PROB, scoreDef}
 use Rattle.checks.specs.Reads.{ratingGood, weightGood, labelGood, nonZero, prefixDay, cardDay, cardRating, check, prefixRow, cardScore, cardRow, targetDef}
-use Rattle.columns.specs.Ends.{targetLoss, targetGrad, targetSlots}
+use Rattle.columns.specs.LastReview.{targetLoss, targetGrad, targetSlots}
 
 -- ---- what the cases share
 -- 'A zero of either sign is zero.'
@@ -50,11 +52,11 @@ abbrev pub step : (w : List Float) (q : State) (day rating : Float) (row : ℕ) 
 step w q day rating row = stepDef (paramsDef w) q day rating row
 
 -- the value of the format just below x, for an x above 0: its bits less 1; and just above
-abbrev pub below : Format → Float → Float
-below f x = ofBits f (toBits f x - 1)
+abbrev pub justBelow : Format → Float → Float
+justBelow f x = ofBits f (toBits f x - 1)
 
-abbrev pub above : Format → Float → Float
-above f x = ofBits f (toBits f x + 1)
+abbrev pub justAbove : Format → Float → Float
+justAbove f x = ofBits f (toBits f x + 1)
 
 -- ---- the values
 -- '1. 1 - 1e-7 in single is 3F7FFFFE.' It is the upper end of a probability.
@@ -67,7 +69,9 @@ Value2 = (f : Format) → let x = fin false (2 ^ 12 + 1) (minus 0 12) in fmaDef 
 
 -- '3. 2.5 rounds to 3; the single below 0.5 to 0.' The double too.
 abbrev pub Value3 : Type 0
-Value3 = (f : Format) → (roundDef f (fin false 5 (minus 0 1)) ≡ fin false 3 (pos 0)) × (roundDef f (below f (fin false 1 (minus 0 1))) ≡ fin false 0 (pos 0))
+Value3 =
+    (f : Format) → (roundDef f (fin false 5 (minus 0 1)) ≡ fin false 3 (pos 0))
+    × (roundDef f (justBelow f (fin false 1 (minus 0 1))) ≡ fin false 0 (pos 0))
 
 -- '4. exp(-0) = 1.' In single and in double.
 abbrev pub Value4 : Type 0
@@ -88,11 +92,16 @@ AtRow1 P = (w : List Float) → Weights w → (q : State) → InRange q → P w 
 
 -- '7. Weights 17 and 19 zero, day 0, rating 3: stability unchanged, raw counts.' `SameDay raw value active`: the raw multiplier is 1 and counts.
 abbrev pub Value7 : Type 0
-Value7 = AtRow1 (λ w q. IsZero (w ! 17) → IsZero (w ! 19) → (day : Float) → IsZero day → (step w q day three 1 .state .s ≡ q .s) × (step w q day three 1 .step .branch ≡ SameDay one one true))
+Value7 =
+    AtRow1 (λ w q. IsZero (w ! 17) → IsZero (w ! 19) → (day : Float) → IsZero day →
+    (step w q day three 1 .state .s ≡ q .s) × (step w q day three 1 .step .branch ≡ SameDay one one true))
 
--- '8. Weight 13 zero, day 1, rating 1: 0.0001, not floored.' `Lapse raw floor floored`: the raw value is 0 and is taken, and the clamp makes it 0.0001.
+-- '8. Weight 13 zero, day 1, rating 1: 0.0001, not floored.' `Lapse raw floor floored`: the raw value is 0 and is taken, and the
+-- clamp makes it 0.0001.
 abbrev pub Value8 : Type 0
-Value8 = AtRow1 (λ w q. IsZero (w ! 13) → (floor : Float) × (step w q one one 1 .state .s ≡ decimal 1 10000) × (step w q one one 1 .step .branch ≡ Lapse zero32 floor false))
+Value8 =
+    AtRow1 (λ w q. IsZero (w ! 13) →
+    (floor : Float) × (step w q one one 1 .state .s ≡ decimal 1 10000) × (step w q one one 1 .step .branch ≡ Lapse zero32 floor false))
 
 -- '9. Day -1, rating 3: stability unchanged.'
 abbrev pub Value9 : Type 0
@@ -106,7 +115,9 @@ Value10 = AtRow1 (λ w q. IsZero (w ! 7) → (day : Float) → step w q day thre
 abbrev pub Value11 : Type 0
 Value11 =
     (p : RuntimeParams) (r s day label weight : Float) (slots : List Float) → IsZero weight
-    → (scoreDef r label weight ≡ record { loss = zero64; «g_r» = zero64 }) × (targetLoss p s day label weight ≡ zero64) × (targetGrad p s day label weight ≡ zero64)
+    → (scoreDef r label weight ≡ record { loss = zero64; «g_r» = zero64 })
+    × (targetLoss p s day label weight ≡ zero64)
+    × (targetGrad p s day label weight ≡ zero64)
     × (targetSlots p s day label weight slots ≡ slots)
 
 -- '12. Day 100000 passes; 100000.0078125 is 7.' That is the next single, 100000 + 2^-7.
@@ -117,11 +128,13 @@ abbrev pub next : Float
 next = decimal 1000000078125 10000000
 
 abbrev pub NextDay : Type 0
-NextDay = (next ≡ fin false (100000 * 2 ^ 7 + 1) (minus 0 7)) × (next ≡ above binary32 last)
+NextDay = (next ≡ fin false (100000 * 2 ^ 7 + 1) (minus 0 7)) × (next ≡ justAbove binary32 last)
 
 -- a row of a prefix whose day is read, with a valid rating
 abbrev pub InPrefix : Type 0
-InPrefix = (row : ℕ) (rating : Float) → prefixDay row rating ≡ true → ratingGood rating ≡ true → (prefixRow row last rating ≡ 0) × (prefixRow row next rating ≡ 7)
+InPrefix =
+    (row : ℕ) (rating : Float) → prefixDay row rating ≡ true → ratingGood rating ≡ true
+    → (prefixRow row last rating ≡ 0) × (prefixRow row next rating ≡ 7)
 
 -- a row of a card whose day is read, with a rating that is valid or not read: after a valid day come the weight and the label
 abbrev pub InCard : Type 0

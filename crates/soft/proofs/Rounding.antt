@@ -1,4 +1,4 @@
--- Laws of rounding, each over the format: what the proofs of `parts` and of the crates above it cite.
+-- Laws of rounding, each over the format: what the proofs here and those of the kernels cite.
 pub mod Basics
 pub mod Closest
 pub mod Pattern

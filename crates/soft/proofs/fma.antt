@@ -1,4 +1,4 @@
--- What the proofs share.
+-- What the proofs of `fma` share.
 mod Align
 mod Exactly
 mod Factors

@@ -1,2 +1,2 @@
--- What the proofs share.
+-- What the proofs of `half_away` share.
 mod Half

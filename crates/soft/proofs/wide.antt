@@ -1,3 +1,4 @@
+-- Laws of numbers of two words.
 pub mod Laws
 pub mod Columns
 pub mod Shifts

@@ -20,7 +20,8 @@ times (fin s m e) nan = invalid
 times (fin s m e) (inf t) = cond (eqb m 0) invalid (infinite (unlike s t))
 times (fin s m e) (fin t n d) = ratio (unlike s t) (m * up e * (n * up d)) (down e * down d)
 
--- Infinities of unlike sign have no sum (7.2). Two fractions are added exactly and rounded once by the kit's `sum`, which gives an exact zero the sign + unless both are negative (6.3).
+-- Infinities of unlike sign have no sum (7.2). Two fractions are added exactly and rounded once by the kit's `sum`, which gives
+-- an exact zero the sign + unless both are negative (6.3).
 unfoldable pub plus : Format → Exact → Float → Float
 plus f invalid z = nan
 plus f (infinite s) nan = nan

@@ -1,10 +1,6 @@
-pub mod Cuts
 pub mod Fma
-pub mod FmaSteps
 pub mod HalfAway
-pub mod Narrow
 pub mod Pack
-pub mod PackSteps
-pub mod Parts
 pub mod Units
 pub mod Value
+pub mod inner

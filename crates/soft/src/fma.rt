@@ -1,46 +1,28 @@
-// The fused multiply-add, x * y + z rounded once, for f32 and f64. Each contract equates the answer to a definition of
-// specs/, and none asks anything of its caller.
+// The fused multiply-add, x * y + z rounded once, for f32 and f64, each equal to its definition (specs/Fma.antt).
 ghost use mathlib.Core.Path.{_≡_};
-ghost use mathlib.Core.Bool.{cond, _&&_};
-ghost use Prim.Native.Nat.{_+_, _-_, _*_, _^_, _≤_, _<_, min};
+ghost use mathlib.Core.Bool.{cond};
+ghost use Prim.Native.Nat.{_+_, _-_, _*_, _^_, _≤_, _<_};
 ghost use lib.Ieee as Ieee;
 ghost use lib.Ieee.{binary32, binary64, minus};
 ghost use Rattle.soft.specs.Value.{valueOf};
 ghost use Rattle.soft.specs.Fma.{fmaDef};
-ghost use Rattle.soft.specs.FmaSteps.{Ready, Full, Merged};
-use crate::units::Units;
-use crate::units::is_finite;
-use crate::units::measure;
+ghost use Rattle.soft.specs.inner.Fma.{Ready, Full, Merged};
+use crate::flags::bit;
+use crate::flags::both;
 use crate::pack::Scaled;
 use crate::pack::pack_wide_f32;
 use crate::pack::pack_wide_f64;
+use crate::place::least;
+use crate::units::Units;
+use crate::units::is_finite;
+use crate::units::measure;
 use crate::wide::Wide;
-
-// Flags and a choice as values: no branch is left open where they meet.
-fn bit(b: bool) -> u64
-    ensures { λ r. ⌜ r ≡ cond b 1 0 ⌝ }
-{
-    if b { 1 } else { 0 }
-}
-
-fn both(a: bool, b: bool) -> bool
-    ensures { λ r. ⌜ r ≡ (a && b) ⌝ }
-{
-    if a { b } else { false }
-}
 
 // The sign of a product.
 fn unlike(a: bool, b: bool) -> bool
     ensures { λ r. ⌜ r ≡ Ieee.unlike a b ⌝ }
 {
     if a { !b } else { b }
-}
-
-// The smaller of the two.
-fn least(a: u64, b: u64) -> u64
-    ensures { λ r. ⌜ r ≡ min a b ⌝ }
-{
-    if a < b { a } else { b }
 }
 
 // ± (whole + a little where `sticky` is set) * 2^places.
@@ -66,7 +48,8 @@ fn full(digits: u64, places: u64) -> Scaled
 // ± big * 2^e and ± small * 2^(e - d), both of 105 or 106 digits, added. What of the small one
 // reaches below the 20 places that the big one has to spare goes into the sticky bit.
 fn merge(sb: bool, big: Wide, ss: bool, small: Wide, d: u64, e: u64) -> Sum
-    requires { ⌜ (2 ^ 104 ≤ valueOf big) × (valueOf big < 2 ^ 106) × (2 ^ 104 ≤ valueOf small) × (valueOf small < 2 ^ 106) × (d ≤ e) × (e < 2 ^ 13) ⌝ }
+    requires { ⌜ (2 ^ 104 ≤ valueOf big) × (valueOf big < 2 ^ 106)
+        × (2 ^ 104 ≤ valueOf small) × (valueOf small < 2 ^ 106) × (d ≤ e) × (e < 2 ^ 13) ⌝ }
     ensures { λ r. ⌜ Merged sb (valueOf big * 2 ^ e) ss (valueOf small * 2 ^ (e - d)) r ⌝ }
 {
     let room = least(d, 20);

@@ -1,23 +1,23 @@
-// To the nearest whole number, half-way cases away from zero, as Rust's `round` does it, for f32 and f64. Each contract
-// equates the answer to a definition of specs/, and none asks anything of its caller.
+// To the nearest whole number, half-way cases away from zero, as Rust's `round` does it, for f32 and f64, each equal to its
+// definition (specs/HalfAway.antt).
 ghost use mathlib.Core.Path.{_≡_};
-ghost use Prim.Native.Nat.{_+_, _*_, _/_, _^_, _<_};
+ghost use Prim.Native.Nat.{_*_, _/_, _^_, _<_};
 ghost use lib.Ieee.{binary32, binary64};
 ghost use Rattle.soft.specs.HalfAway.{roundDef};
 use crate::units::is_finite;
 use crate::units::measure;
 
-// The whole part of digits * 2^places / 2^1074 + 1/2.
-fn half_away(digits: u64, places: u64) -> u64
+// How many whole halves are in digits * 2^places / 2^1074. One more of them, cut to a whole number, is the nearest one: the
+// half is added to a whole number, where nothing is rounded, and not to x.
+fn halves_in(digits: u64, places: u64) -> u64
     requires { ⌜ (digits < 2 ^ 53) × (places < 1074) ⌝ }
-    ensures { λ r. ⌜ r ≡ (digits * 2 ^ places * 2 + 2 ^ 1074) / (2 ^ 1074 * 2) ⌝ }
+    ensures { λ r. ⌜ r ≡ digits * 2 ^ places / 2 ^ 1073 ⌝ }
 {
-    let d = 1074 - places;
-    if 54 < d {
+    let d = 1073 - places;
+    if 63 < d {
         return 0;
     }
-    let half = 1u64 << (d - 1);
-    (digits + half) >> d
+    digits >> d
 }
 
 pub fn round_f64(x: f64) -> f64
@@ -27,7 +27,8 @@ pub fn round_f64(x: f64) -> f64
         let u = measure(x);
         let places = u.places;
         if places < 1074 {
-            let r = half_away(u.digits, places) as f64;
+            let h = halves_in(u.digits, places);
+            let r = ((h + 1) / 2) as f64;
             if u.negative {
                 return -r;
             }
@@ -45,7 +46,8 @@ pub fn round_f32(x: f32) -> f32
         let u = measure(w);
         let places = u.places;
         if places < 1045 {
-            let t = half_away(u.digits, places) as f32;
+            let h = halves_in(u.digits, places);
+            let t = ((h + 1) / 2) as f32;
             if u.negative {
                 return -t;
             }

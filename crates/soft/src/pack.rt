@@ -1,4 +1,4 @@
-// A float put together: the nearest to ±(q + a little where `sticky` is set) * 2^e.
+// A float put together: the nearest to ± w * 2^e, for a w of two words.
 ghost use mathlib.Core.Path.{_≡_};
 ghost use Prim.Native.Nat.{_+_, _*_, _^_, _<_};
 ghost use lib.Ieee.{binary32, binary64, up, down};
@@ -6,10 +6,7 @@ ghost use lib.Dec.{T};
 ghost use lib.IntN.{negsuc};
 ghost use lib.Signed.{leZ};
 ghost use Rattle.soft.specs.Value.{valueOf};
-ghost use Rattle.soft.specs.Pack.{packDef, packWideDef};
-ghost use Rattle.soft.specs.PackSteps.{foldDef};
-use crate::flags::bit;
-use crate::flags::either;
+ghost use Rattle.soft.specs.Pack.{packWideDef};
 use crate::place::place_f32;
 use crate::place::place_f64;
 use crate::squeeze::squeeze;
@@ -19,23 +16,6 @@ use crate::wide::Wide;
 pub struct Scaled {
     pub digits: u64,
     pub places: u64,
-}
-
-// 2q and the sticky bit, in halves; the two last digits of a q of 63 or 64 digits join that bit.
-fn fold(q: u64, sticky: bool) -> Scaled
-    ensures { λ r. ⌜ r ≡ foldDef q sticky ⌝ }
-{
-    if q < 0x4000_0000_0000_0000 {
-        return Scaled {
-            digits: q * 2 + bit(sticky),
-            places: 0,
-        };
-    }
-    let more = q % 4 != 0;
-    Scaled {
-        digits: q / 4 * 2 + bit(either(sticky, more)),
-        places: 2,
-    }
 }
 
 // e + 2254: the exponent counted from 2^-2254.
@@ -49,34 +29,13 @@ fn lift(e: i64) -> u64
     (e + 2254) as u64
 }
 
-pub fn pack_f64(negative: bool, q: u64, sticky: bool, e: i64) -> f64
-    ensures { λ r. ⌜ r ≡ packDef binary64 negative q sticky e ⌝ }
-{
-    if e < -2254 {
-        return place_f64(negative, 0, 0);
-    }
-    let v = fold(q, sticky);
-    place_f64(negative, v.digits, lift(e) + v.places)
-}
-
-pub fn pack_f32(negative: bool, q: u64, sticky: bool, e: i64) -> f32
-    ensures { λ r. ⌜ r ≡ packDef binary32 negative q sticky e ⌝ }
-{
-    if e < -2254 {
-        return place_f32(negative, 0, 0);
-    }
-    let w = fold(q, sticky);
-    place_f32(negative, w.digits, lift(e) + w.places)
-}
-
-// The nearest to ± w * 2^e, for a w of two words.
 pub fn pack_wide_f64(negative: bool, w: Wide, e: i64) -> f64
     ensures { λ r. ⌜ r ≡ packWideDef binary64 negative (valueOf w) e ⌝ }
 {
     if e < -2254 {
         return place_f64(negative, 0, 0);
     }
-    let t = squeeze(w, false);
+    let t = squeeze(w);
     place_f64(negative, t.digits, lift(e) + t.places)
 }
 
@@ -86,6 +45,6 @@ pub fn pack_wide_f32(negative: bool, w: Wide, e: i64) -> f32
     if e < -2254 {
         return place_f32(negative, 0, 0);
     }
-    let u = squeeze(w, false);
+    let u = squeeze(w);
     place_f32(negative, u.digits, lift(e) + u.places)
 }

@@ -1,10 +1,10 @@
 // The nearest float to a whole number times a power of two, in units so small that no exponent is
 // negative: 2^-2255, half of a unit of the exact product of two doubles.
 ghost use mathlib.Core.Path.{_≡_};
-ghost use Prim.Native.Nat.{_+_, _-_, _*_, _^_, _≤_, _<_, min};
+ghost use Prim.Native.Nat.{_+_, _-_, _*_, _^_, _<_, min};
 ghost use lib.Ieee.{round, binary32, binary64};
 ghost use lib.Ieee.Nearest.{closest};
-ghost use Rattle.soft.specs.Cuts.{placedBits};
+ghost use Rattle.soft.specs.inner.Pack.{placedBits};
 use crate::shifts::digits64;
 
 // The smaller of the two.

@@ -10,7 +10,7 @@ use crate::wide::Wide;
 
 // w * 2^n, less what leaves at the top. What crosses to the upper word is shifted twice, so that
 // n = 0 is no case of its own.
-pub fn shl(w: Wide, n: u64) -> Wide
+pub(crate) fn shl(w: Wide, n: u64) -> Wide
     ensures { λ r. ⌜ valueOf r ≡ valueOf w * 2 ^ n % 2 ^ 128 ⌝ }
 {
     let high = w.high;
@@ -54,7 +54,7 @@ pub fn shr(w: Wide, n: u64) -> Wide
 }
 
 // Whether w / 2^n leaves a remainder: what a rounding calls sticky.
-pub fn lost(w: Wide, n: u64) -> bool
+pub(crate) fn lost(w: Wide, n: u64) -> bool
     ensures { λ r. ⌜ r ≡ not (eqb (valueOf w % 2 ^ n) 0) ⌝ }
 {
     let high = w.high;
@@ -82,7 +82,7 @@ pub fn digits64(x: u64) -> u64
 }
 
 // How many binary digits w has: none for 0.
-pub fn digits(w: Wide) -> u64
+pub(crate) fn digits(w: Wide) -> u64
     ensures { λ r. ⌜ r ≡ size (valueOf w) ⌝ }
 {
     let high = w.high;

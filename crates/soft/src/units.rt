@@ -1,9 +1,9 @@
 // A double as a whole number of the smallest one, 2^-1074: nothing here is negative but the sign.
 ghost use mathlib.Core.Path.{_≡_};
+ghost use Prim.Native.Nat.{_<_, _^_};
 ghost use lib.Ieee.{binary64, toBits};
 ghost use lib.Ieee.Scale.{finite};
-ghost use Rattle.soft.specs.Units.{unitsDef};
-use crate::fields::split;
+ghost use Rattle.soft.specs.Units.{splitDef, unitsDef};
 
 // ± digits * 2^places smallest values.
 pub struct Units {
@@ -20,6 +20,28 @@ pub fn pattern(x: f64) -> u64
         return 0x7ff8_0000_0000_0000;
     }
     f64::to_bits(x)
+}
+
+// A pattern by its fields, for a format whose sign weighs `top` and whose exponent's field `hid`.
+fn split(b: u64, top: u64, hid: u64) -> Units
+    requires { ⌜ (0 < top) × (0 < hid) × (hid < 2 ^ 63) ⌝ }
+    ensures { λ r. ⌜ r ≡ splitDef top hid b ⌝ }
+{
+    let negative = top <= b;
+    let field = b % top / hid;
+    let t = b % hid;
+    if field == 0 {
+        return Units {
+            negative,
+            digits: t,
+            places: 0,
+        };
+    }
+    Units {
+        negative,
+        digits: hid + t,
+        places: field - 1,
+    }
 }
 
 // x by the fields of its pattern. Where x is finite, it is ± digits * 2^places * 2^-1074.

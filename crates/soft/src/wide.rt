@@ -66,7 +66,7 @@ pub fn difference(a: Wide, b: Wide) -> Wide
 }
 
 // Whether a < b.
-pub fn less(a: Wide, b: Wide) -> bool
+pub(crate) fn less(a: Wide, b: Wide) -> bool
     ensures { λ r. ⌜ r ≡ ltb (valueOf a) (valueOf b) ⌝ }
 {
     let x = a.high;

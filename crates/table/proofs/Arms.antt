@@ -1,8 +1,7 @@
 -- An arm of the `match`, and the case that no arm takes. Assumes nothing.
 use mathlib.Core.Path.{_≡_, sym, ap, _∙_}
 use mathlib.Core.List.{[], _∷_}
-use Prim.Native.Nat.{ℕ, zero, suc, _^_, _≤_}
-use Prim.Native.Nat.{zero-le}
+use Prim.Native.Nat.{ℕ, zero, suc, _^_, _≤_, zero-le}
 use lib.Arith.{lt-of-le-ne}
 use lib.Dec.{T, eqb, eqb→eq}
 use types.Run.{OneOf}

@@ -2,9 +2,8 @@
 use mathlib.Core.Path.{_≡_, refl, sym, ap, _∙_, subst}
 use mathlib.Core.Bool.{Bool, cond, _&&_}
 use mathlib.Core.List.{List, [], _∷_}
-use mathlib.Core.Logic.{inl, inr}
 use Prim.Native.Nat.{ℕ, zero, suc, _+_, _*_, _/_, _^_, _≤_, _<_}
-use native.Mathlib.Nat.{add-zero, add-suc, suc-add, zero-add, le-of-suc-le-suc, not-suc-le-zero, le-of-lt, eq-or-lt-of-le}
+use native.Mathlib.Nat.{add-zero, add-suc, suc-add, zero-add, le-of-suc-le-suc, not-suc-le-zero}
 use lib.Dec.{T, leb, ltb, leb→le, ltb→lt, lit≤}
 use lib.Ieee.Fits.{and-l, and-r}
 use lib.ListN.{getD}
@@ -60,9 +59,3 @@ entry-last = entry-end 256 (lit≤ tt)
 pub entry-zero : entry 0 ≡ 2 ^ 62
 unfolding entry P taylor fact
 entry-zero = refl
-
-pub entry-range : (i : ℕ) → i ≤ 256 → (2 ^ 62 ≤ entry i) × (entry i ≤ 2 ^ 63)
-entry-range i h = elim (eq-or-lt-of-le h) [
-  | inl e ↦ subst (λ (j : ℕ). (2 ^ 62 ≤ entry j) × (entry j ≤ 2 ^ 63)) (sym e) (subst (λ (x : ℕ). (2 ^ 62 ≤ x) × (x ≤ 2 ^ 63)) (sym entry-last) (lit≤ tt, lit≤ tt))
-  | inr l ↦ (entry-ge i l, le-of-lt (entry-lt i l))
-]

@@ -1,2 +1,2 @@
--- The proof of the one function.
+-- What the proof of `start_in` cites.
 mod Arms

@@ -1,4 +1,5 @@
--- The cubic that stands for 256 times the binary logarithm of 1 + k / 512, from below: kernels/proofs/Starts.antt has how near. Assumes nothing.
+-- The cubic that stands for 256 times the binary logarithm of 1 + k / 512, from below: kernels/proofs/Definitions/Starts.antt has
+-- how near. Assumes nothing.
 use Prim.Native.Nat.{ℕ, _+_, _-_, _*_, _/_, _^_}
 
 abbrev pub startDef : ℕ → ℕ

@@ -1,6 +1,7 @@
 // The fractional powers of two: 2^62 * 2^(i / 256), cut to a whole number; 2^63 from 256 on. `tools/table.py` writes this
 // file. A `match` of constants compiles to one load, where a constant array is built anew at each call.
 pub mod starts;
+
 ghost use mathlib.Core.Path.{_≡_};
 ghost use Rattle.table.specs.Entry.{entry};
 

@@ -48,12 +48,3 @@ pub fn pattern_bool(b: bool) -> u64 {
 pub fn u32_of(b: u64) -> u32 {
     (b % 0x1_0000_0000) as u32
 }
-
-// A two's complement.
-pub fn signed(b: u64) -> i64 {
-    if b < 0x8000_0000_0000_0000 {
-        return b as i64;
-    }
-    let below = (u64::MAX - b) as i64;
-    -1 - below
-}

@@ -20,17 +20,17 @@ pub fn after(k: &[u64; 640], at: usize) -> usize {
     std::num::wrapping_add_usize(numbers, length_at(k, at))
 }
 
-// Whether n words are one slice.
-pub fn is_slice(k: &[u64; 640], n: usize) -> bool {
-    n != 0 && after(k, 0) == n
+// Whether n words are one slice, of so many numbers at most.
+pub fn is_slice(k: &[u64; 640], n: usize, most: usize) -> bool {
+    n != 0 && after(k, 0) == n && length_at(k, 0) <= most
 }
 
-pub fn copy_words(from: &[u64; 640], to: &mut [u64; 640]) {
-    let mut i = 0;
-    while i < WORDS {
-        to[i] = from[i];
-        i += 1;
+// The first n, or all where there are fewer.
+pub fn first_of(xs: &[f32], n: usize) -> &[f32] {
+    if n < xs.len() {
+        return &xs[0..n];
     }
+    xs
 }
 
 pub fn set_singles(k: &[u64; 640], at: usize, to: &mut [f32; 128]) {

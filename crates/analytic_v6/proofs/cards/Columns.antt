@@ -10,12 +10,12 @@ use lib.ListN.{getD, length, set}
 use lib.Seq.{getD-set-other}
 use Rattle.domain.specs.Doubles.{zero64}
 use Rattle.forward.specs.declared.parameters.RuntimeParams.{RuntimeParams}
-use Rattle.checks.specs.Batch.{Cards, lengthAt, at}
+use Rattle.checks.specs.Batch.{Cards, lengthAt, history, labelAt, weightAt}
 use Rattle.columns.specs.Records.{roomDef, loadDef}
-use Rattle.columns.specs.Back.{startGrad, backDef}
-use Rattle.columns.specs.Ends.{lastLoss, lastGrad, lastSlots}
-use Rattle.columns.specs.Path.{recordAt, storedDef, scoreAt, runAt, gradsDef}
-use Rattle.columns.specs.declared.scored.Run.{Run}
+use Rattle.columns.specs.BackwardPass.{startGrad, backDef}
+use Rattle.columns.specs.LastReview.{lastLoss, lastGrad, lastSlots}
+use Rattle.columns.specs.ForwardPass.{recordAt, storedDef, scoreAt, runAt, gradsDef}
+use Rattle.columns.specs.declared.forward_pass.Run.{Run}
 use Rattle.columns.proofs.Kept.{path-read, grads-read, back-same}
 use Rattle.analytic_v6.specs.Cards.{cardLoss, cardSlots, cardRecords, cardGrads}
 
@@ -45,28 +45,28 @@ module _ (p : RuntimeParams) (x : Cards) (column n : ℕ) (e : n ≡ lengthAt (x
     some : lengthAt (x .table) column ≡ 0 → ⊥
     some z = h (e ∙ z)
 
-    pub records-of : (records : List Float) → storedDef p (x .table .days) (x .table .ratings) (x .table .columns) column (n - 1) records ≡ cardRecords p x column records
+    pub records-of : (records : List Float) → storedDef p (history (x .table) column) (n - 1) records ≡ cardRecords p x column records
     unfolding cardRecords
     records-of records = rw e
 
     pub grads-of :
         (step-grads : List Float) →
-        set (gradsDef p (x .table .days) (x .table .ratings) (x .table .columns) column (x .labels) (x .weights) (n - 1) step-grads) (n - 1) zero64 ≡ cardGrads p x column step-grads
+        set (gradsDef p (history (x .table) column) (labelAt x column) (weightAt x column) (n - 1) step-grads) (n - 1) zero64 ≡ cardGrads p x column step-grads
     unfolding cardGrads
     grads-of step-grads = rw (ne-eqb _ 0 some, e)
 
     module _ (run : Run) (day label weight : Float)
-        (er : run ≡ runAt p (x .table .days) (x .table .ratings) (x .table .columns) column (x .labels) (x .weights) (n - 1))
-        (ed : day ≡ at (x .table) (x .table .days) (n - 1) column) (el : label ≡ at (x .table) (x .labels) (n - 1) column)
-        (ew : weight ≡ at (x .table) (x .weights) (n - 1) column) where
+        (er : run ≡ runAt p (history (x .table) column) (labelAt x column) (weightAt x column) (n - 1))
+        (ed : day ≡ history (x .table) column .day (n - 1)) (el : label ≡ labelAt x column (n - 1))
+        (ew : weight ≡ weightAt x column (n - 1)) where
       pub loss-of : lastLoss p (n - 1) (run .state .s) day label weight (run .loss) ≡ cardLoss p x column
       unfolding cardLoss runAt
       loss-of = rw (ne-eqb _ 0 some, er, ed, el, ew, e)
 
       walk-of :
           (gw : List Float) →
-          backDef p (recordAt p (x .table .days) (x .table .ratings) (x .table .columns) column)
-          (λ row. scoreAt p (x .table .days) (x .table .ratings) (x .table .columns) column (x .labels) (x .weights) row .«g_r»)
+          backDef p (recordAt p (history (x .table) column))
+          (λ row. scoreAt p (history (x .table) column) (labelAt x column) (weightAt x column) row .«g_r»)
           (n - 1)
           (startGrad (lastGrad p (n - 1) (run .state .s) day label weight))
           (lastSlots p (n - 1) (run .state .s) day label weight gw) ≡
@@ -76,18 +76,18 @@ module _ (p : RuntimeParams) (x : Cards) (column n : ℕ) (e : n ≡ lengthAt (x
 
       pub slots-of :
           (records step-grads gw : List Float) → lengthAt (x .table) column ≤ roomDef (length records) → lengthAt (x .table) column ≤ length step-grads →
-          backDef p (λ i. loadDef i (storedDef p (x .table .days) (x .table .ratings) (x .table .columns) column (n - 1) records))
-          (λ i. getD (set (gradsDef p (x .table .days) (x .table .ratings) (x .table .columns) column (x .labels) (x .weights) (n - 1) step-grads) (n - 1) zero64) i zero64)
+          backDef p (λ i. loadDef i (storedDef p (history (x .table) column) (n - 1) records))
+          (λ i. getD (set (gradsDef p (history (x .table) column) (labelAt x column) (weightAt x column) (n - 1) step-grads) (n - 1) zero64) i zero64)
           (n - 1)
           (startGrad (lastGrad p (n - 1) (run .state .s) day label weight))
           (lastSlots p (n - 1) (run .state .s) day label weight gw) ≡
           cardSlots p x column gw
       slots-of records step-grads gw l m =
-          back-same p _ (recordAt p (x .table .days) (x .table .ratings) (x .table .columns) column) _
-          (λ row. scoreAt p (x .table .days) (x .table .ratings) (x .table .columns) column (x .labels) (x .weights) row .«g_r»)
+          back-same p _ (recordAt p (history (x .table) column)) _
+          (λ row. scoreAt p (history (x .table) column) (labelAt x column) (weightAt x column) row .«g_r»)
           (n - 1)
-          (λ i k. path-read p _ _ _ column (n - 1) i records (le-trans less l) k)
-          (λ i k. getD-set-other (gradsDef p (x .table .days) (x .table .ratings) (x .table .columns) column (x .labels) (x .weights) (n - 1) step-grads) (n - 1) i zero64 zero64 (ne-of-lt k) ∙ grads-read p _ _ _ column _ _ (n - 1) i step-grads (le-trans less m) k)
+          (λ i k. path-read p _ (n - 1) i records (le-trans less l) k)
+          (λ i k. getD-set-other (gradsDef p (history (x .table) column) (labelAt x column) (weightAt x column) (n - 1) step-grads) (n - 1) i zero64 zero64 (ne-of-lt k) ∙ grads-read p _ _ _ (n - 1) i step-grads (le-trans less m) k)
           _
           _ ∙
           walk-of gw

@@ -7,13 +7,13 @@ use lib.ListN.{getD, length}
 use Rattle.domain.specs.Doubles.{zero64}
 use Rattle.domain.specs.Weights.{_!_}
 use Rattle.forward.specs.declared.parameters.RuntimeParams.{RuntimeParams}
-use Rattle.forward.specs.declared.stability.State.{State}
-use Rattle.checks.specs.Batch.{Prefixes, lengthAt}
+use Rattle.forward.specs.declared.state.State.{State}
+use Rattle.checks.specs.Batch.{Prefixes, lengthAt, history}
 use Rattle.columns.specs.Records.{roomDef, loadDef}
-use Rattle.columns.specs.Back.{startGrad, backDef}
-use Rattle.columns.specs.Ends.{targetLoss, targetGrad, targetSlots}
-use Rattle.columns.specs.Path.{stateAt, recordAt, storedDef}
-use Rattle.columns.specs.declared.ends.Ending.{Ending}
+use Rattle.columns.specs.BackwardPass.{startGrad, backDef}
+use Rattle.columns.specs.LastReview.{targetLoss, targetGrad, targetSlots}
+use Rattle.columns.specs.ForwardPass.{stateAt, recordAt, storedDef}
+use Rattle.columns.specs.declared.last_review.Ending.{Ending}
 use Rattle.columns.proofs.Kept.{path-length, path-read, back-same}
 use Rattle.analytic_v6.specs.Prefixes.{prefixLoss, prefixSlots, prefixRecords}
 
@@ -23,7 +23,7 @@ unscored zero = refl
 unscored (suc i) = refl
 
 module _ (p : RuntimeParams) (x : Prefixes) (column n : ℕ) (e : n ≡ lengthAt (x .table) column) where
-  module _ (q : State) (day label weight : Float) (eq : q ≡ stateAt p (x .table .days) (x .table .ratings) (x .table .columns) column n)
+  module _ (q : State) (day label weight : Float) (eq : q ≡ stateAt p (history (x .table) column) n)
       (ed : day ≡ x .days ! column) (el : label ≡ x .labels ! column) (ew : weight ≡ x .weights ! column) where
     pub loss-of : targetLoss p (q .s) day label weight ≡ prefixLoss p x column
     unfolding prefixLoss
@@ -31,15 +31,15 @@ module _ (p : RuntimeParams) (x : Prefixes) (column n : ℕ) (e : n ≡ lengthAt
 
     pub slots-of :
         (records gw u : List Float) → lengthAt (x .table) column ≤ roomDef (length records) → ((i : ℕ) → getD u i zero64 ≡ zero64) →
-        backDef p (λ i. loadDef i (storedDef p (x .table .days) (x .table .ratings) (x .table .columns) column n records)) (λ i. getD u i zero64) n
+        backDef p (λ i. loadDef i (storedDef p (history (x .table) column) n records)) (λ i. getD u i zero64) n
         (startGrad (targetGrad p (q .s) day label weight)) (targetSlots p (q .s) day label weight gw) ≡
         prefixSlots p x column gw
     unfolding prefixSlots
     slots-of records gw u l z =
-        back-same p _ (recordAt p (x .table .days) (x .table .ratings) (x .table .columns) column) _ (λ row. zero64) n
-        (λ i h. path-read p _ _ _ column n i records (rw e l) h) (λ i h. z i) _ _ ∙
+        back-same p _ (recordAt p (history (x .table) column)) _ (λ row. zero64) n
+        (λ i h. path-read p _ n i records (rw e l) h) (λ i h. z i) _ _ ∙
         (rw (ed, el, ew, eq, e))
 
-  pub records-of : (records : List Float) → storedDef p (x .table .days) (x .table .ratings) (x .table .columns) column n records ≡ prefixRecords p x column records
+  pub records-of : (records : List Float) → storedDef p (history (x .table) column) n records ≡ prefixRecords p x column records
   unfolding prefixRecords
   records-of records = rw e

@@ -7,20 +7,20 @@ ghost use Rattle.columns.specs.Records.{roomDef};
 ghost use Rattle.checks.specs.Columns.{total, through};
 ghost use Rattle.checks.specs.Batch.{cardsOf};
 ghost use Rattle.checks.specs.Tables.{cutAt};
-ghost use Rattle.analytic_v6.specs.Cards.{cardLoss, cardSlots, cardRecords, cardGrads, cardsLossAndGrad, cardsSlots, cardsRecords, cardsGrads};
-use checks::card_grad::card_grad_refusal;
-use columns::ends::Loss;
-use columns::ends::last_end;
-use forward::parameters::RuntimeParams;
-use forward::parameters::runtime_params;
-use columns::records::room;
-use columns::reverse_walk::walk_back;
-use columns::stored_scores::run_scored_stored;
+ghost use Rattle.analytic_v6.specs.Cards.{cardLoss, cardSlots, cardRecords, cardGrads, cardsLossAndGrad, CardsLeave};
+use crate::answers::Loss;
+use checks::refusals::card_grad_refusal;
 use checks::tables::cell_of;
 use checks::tables::cut_length;
 use checks::tables::read;
 use checks::tables::write_f64;
+use columns::backward_pass::column_backward;
+use columns::forward_pass::card_forward_recorded;
+use columns::last_review::last_end;
+use columns::records::room;
 use domain::weights::copy_weights;
+use forward::parameters::RuntimeParams;
+use forward::parameters::runtime_params;
 
 fn column_loss_and_grad(
     p: RuntimeParams,
@@ -36,15 +36,23 @@ fn column_loss_and_grad(
     records: &mut [f32],
     step_grads: &mut [f64],
 ) -> f64
-    requires { ⌜ (cutAt (now «seq_lens») «seq_len» column ≤ roomDef (length (now records))) × (cutAt (now «seq_lens») «seq_len» column ≤ length (now «step_grads»)) ⌝ }
-    ensures { λ r. ⌜ (let x = cardsOf (now («t_hist» .entry)) (now («r_hist» .entry)) «seq_len» batch (now («seq_lens» .entry)) (now (labels .entry)) (now (weights .entry)) in (r ≡ cardLoss p x column) × (now (gw .exit) ≡ cardSlots p x column (now (gw .entry))) × (now (records .exit) ≡ cardRecords p x column (now (records .entry))) × (now («step_grads» .exit) ≡ cardGrads p x column (now («step_grads» .entry)))) ⌝ }
+    requires { ⌜
+        (cutAt (now «seq_lens») «seq_len» column ≤ roomDef (length (now records))) ×
+        (cutAt (now «seq_lens») «seq_len» column ≤ length (now «step_grads»)) ⌝ }
+    ensures { λ r. ⌜
+        (let x = cardsOf (now («t_hist» .entry)) (now («r_hist» .entry)) «seq_len» batch (now («seq_lens» .entry))
+        (now (labels .entry)) (now (weights .entry)) in
+        (r ≡ cardLoss p x column) ×
+        (now (gw .exit) ≡ cardSlots p x column (now (gw .entry))) ×
+        (now (records .exit) ≡ cardRecords p x column (now (records .entry))) ×
+        (now («step_grads» .exit) ≡ cardGrads p x column (now («step_grads» .entry)))) ⌝ }
 {
     let n = cut_length(seq_lens, seq_len, column);
     if n == 0 {
         return 0.0;
     }
     let m = n - 1;
-    let run = run_scored_stored(
+    let run = card_forward_recorded(
         p,
         t_hist,
         r_hist,
@@ -63,7 +71,7 @@ fn column_loss_and_grad(
     let weight = read(weights, k);
     write_f64(step_grads, m as usize, 0.0);
     let end = last_end(p, m, state.s, day, label, weight, run.loss, gw);
-    walk_back(p, records, step_grads, m, end.g_s, gw);
+    column_backward(p, records, step_grads, m, end.g_s, gw);
     end.loss
 }
 
@@ -80,8 +88,16 @@ fn batch_total_and_grad(
     records: &mut [f32],
     step_grads: &mut [f64],
 ) -> f64
-    requires { ⌜ (longestDef (now «seq_lens») «seq_len» batch ≤ roomDef (length (now records))) × (longestDef (now «seq_lens») «seq_len» batch ≤ length (now «step_grads»)) ⌝ }
-    ensures { λ r. ⌜ (let x = cardsOf (now («t_hist» .entry)) (now («r_hist» .entry)) «seq_len» batch (now («seq_lens» .entry)) (now (labels .entry)) (now (weights .entry)) in (r ≡ total (cardLoss p x) batch) × (now (gw .exit) ≡ through (cardSlots p x) batch (now (gw .entry))) × (now (records .exit) ≡ through (cardRecords p x) batch (now (records .entry))) × (now («step_grads» .exit) ≡ through (cardGrads p x) batch (now («step_grads» .entry)))) ⌝ }
+    requires { ⌜
+        (longestDef (now «seq_lens») «seq_len» batch ≤ roomDef (length (now records))) ×
+        (longestDef (now «seq_lens») «seq_len» batch ≤ length (now «step_grads»)) ⌝ }
+    ensures { λ r. ⌜
+        (let x = cardsOf (now («t_hist» .entry)) (now («r_hist» .entry)) «seq_len» batch (now («seq_lens» .entry))
+        (now (labels .entry)) (now (weights .entry)) in
+        (r ≡ total (cardLoss p x) batch) ×
+        (now (gw .exit) ≡ through (cardSlots p x) batch (now (gw .entry))) ×
+        (now (records .exit) ≡ through (cardRecords p x) batch (now (records .entry))) ×
+        (now («step_grads» .exit) ≡ through (cardGrads p x) batch (now («step_grads» .entry)))) ⌝ }
 {
     let mut loss = 0.0;
     let mut c = 0;
@@ -121,7 +137,13 @@ pub fn card_loss_and_grad(
     records: &mut [f32],
     step_grads: &mut [f64],
 ) -> Loss
-    ensures { λ r. ⌜ (let x = cardsOf (now («t_hist» .entry)) (now («r_hist» .entry)) «seq_len» batch (now («seq_lens» .entry)) (now (labels .entry)) (now (weights .entry)) in (r ≡ cardsLossAndGrad (now (w .entry)) x (length (now (gw .entry))) (length (now (records .entry))) (length (now («step_grads» .entry)))) × (now (gw .exit) ≡ cardsSlots (now (w .entry)) x (now (gw .entry)) (length (now (records .entry))) (length (now («step_grads» .entry)))) × (now (records .exit) ≡ cardsRecords (now (w .entry)) x (length (now (gw .entry))) (now (records .entry)) (length (now («step_grads» .entry)))) × (now («step_grads» .exit) ≡ cardsGrads (now (w .entry)) x (length (now (gw .entry))) (length (now (records .entry))) (now («step_grads» .entry)))) ⌝ }
+    ensures { λ r. ⌜
+        (let x = cardsOf (now («t_hist» .entry)) (now («r_hist» .entry)) «seq_len» batch (now («seq_lens» .entry))
+        (now (labels .entry)) (now (weights .entry)) in
+        (r ≡ cardsLossAndGrad (now (w .entry)) x (length (now (gw .entry))) (length (now (records .entry)))
+        (length (now («step_grads» .entry)))) ×
+        CardsLeave (now (w .entry)) x (now (gw .entry)) (now (records .entry)) (now («step_grads» .entry)) (now (gw .exit))
+        (now (records .exit)) (now («step_grads» .exit))) ⌝ }
 {
     let slots = gw.len();
     let space = room(records);

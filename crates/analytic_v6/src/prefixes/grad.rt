@@ -7,18 +7,18 @@ ghost use Rattle.columns.specs.Records.{roomDef};
 ghost use Rattle.checks.specs.Columns.{total, through};
 ghost use Rattle.checks.specs.Batch.{prefixesOf};
 ghost use Rattle.checks.specs.Tables.{cutAt};
-ghost use Rattle.analytic_v6.specs.Prefixes.{prefixLoss, prefixSlots, prefixRecords, batchLossAndGrad, batchSlots, batchRecords};
-use checks::prefix_grad::prefix_grad_refusal;
-use columns::ends::Loss;
-use columns::ends::target_end;
-use forward::parameters::RuntimeParams;
-use forward::parameters::runtime_params;
-use columns::records::room;
-use columns::reverse_walk::walk_back;
-use columns::stored_path::run_stored;
+ghost use Rattle.analytic_v6.specs.Prefixes.{prefixLoss, prefixSlots, prefixRecords, batchLossAndGrad, BatchLeaves};
+use crate::answers::Loss;
+use checks::refusals::prefix_grad_refusal;
 use checks::tables::cut_length;
 use checks::tables::read;
+use columns::backward_pass::column_backward;
+use columns::forward_pass::prefix_forward_recorded;
+use columns::last_review::target_end;
+use columns::records::room;
 use domain::weights::copy_weights;
+use forward::parameters::RuntimeParams;
+use forward::parameters::runtime_params;
 
 fn column_loss_and_grad(
     p: RuntimeParams,
@@ -35,17 +35,22 @@ fn column_loss_and_grad(
     records: &mut [f32],
 ) -> f64
     requires { ⌜ cutAt (now «seq_lens») «seq_len» column ≤ roomDef (length (now records)) ⌝ }
-    ensures { λ r. ⌜ (let x = prefixesOf (now («t_hist» .entry)) (now («r_hist» .entry)) «seq_len» batch (now («seq_lens» .entry)) (now («delta_ts» .entry)) (now (labels .entry)) (now (weights .entry)) in (r ≡ prefixLoss p x column) × (now (gw .exit) ≡ prefixSlots p x column (now (gw .entry))) × (now (records .exit) ≡ prefixRecords p x column (now (records .entry)))) ⌝ }
+    ensures { λ r. ⌜
+        (let x = prefixesOf (now («t_hist» .entry)) (now («r_hist» .entry)) «seq_len» batch (now («seq_lens» .entry))
+        (now («delta_ts» .entry)) (now (labels .entry)) (now (weights .entry)) in
+        (r ≡ prefixLoss p x column) ×
+        (now (gw .exit) ≡ prefixSlots p x column (now (gw .entry))) ×
+        (now (records .exit) ≡ prefixRecords p x column (now (records .entry)))) ⌝ }
 {
     let n = cut_length(seq_lens, seq_len, column);
-    let q = run_stored(p, t_hist, r_hist, batch, column, n, records);
+    let q = prefix_forward_recorded(p, t_hist, r_hist, batch, column, n, records);
     let k = column as usize;
     let day = read(delta_ts, k);
     let label = read(labels, k);
     let weight = read(weights, k);
     let end = target_end(p, q.s, day, label, weight, gw);
     let unscored = [0.0f64; 1];
-    walk_back(p, records, &unscored, n, end.g_s, gw);
+    column_backward(p, records, &unscored, n, end.g_s, gw);
     end.loss
 }
 
@@ -63,7 +68,12 @@ fn batch_total_and_grad(
     records: &mut [f32],
 ) -> f64
     requires { ⌜ longestDef (now «seq_lens») «seq_len» batch ≤ roomDef (length (now records)) ⌝ }
-    ensures { λ r. ⌜ (let x = prefixesOf (now («t_hist» .entry)) (now («r_hist» .entry)) «seq_len» batch (now («seq_lens» .entry)) (now («delta_ts» .entry)) (now (labels .entry)) (now (weights .entry)) in (r ≡ total (prefixLoss p x) batch) × (now (gw .exit) ≡ through (prefixSlots p x) batch (now (gw .entry))) × (now (records .exit) ≡ through (prefixRecords p x) batch (now (records .entry)))) ⌝ }
+    ensures { λ r. ⌜
+        (let x = prefixesOf (now («t_hist» .entry)) (now («r_hist» .entry)) «seq_len» batch (now («seq_lens» .entry))
+        (now («delta_ts» .entry)) (now (labels .entry)) (now (weights .entry)) in
+        (r ≡ total (prefixLoss p x) batch) ×
+        (now (gw .exit) ≡ through (prefixSlots p x) batch (now (gw .entry))) ×
+        (now (records .exit) ≡ through (prefixRecords p x) batch (now (records .entry)))) ⌝ }
 {
     let mut loss = 0.0;
     let mut c = 0;
@@ -103,7 +113,11 @@ pub fn batch_loss_and_grad(
     gw: &mut [f64],
     records: &mut [f32],
 ) -> Loss
-    ensures { λ r. ⌜ (let x = prefixesOf (now («t_hist» .entry)) (now («r_hist» .entry)) «seq_len» batch (now («seq_lens» .entry)) (now («delta_ts» .entry)) (now (labels .entry)) (now (weights .entry)) in (r ≡ batchLossAndGrad (now (w .entry)) x (length (now (gw .entry))) (length (now (records .entry)))) × (now (gw .exit) ≡ batchSlots (now (w .entry)) x (now (gw .entry)) (length (now (records .entry)))) × (now (records .exit) ≡ batchRecords (now (w .entry)) x (length (now (gw .entry))) (now (records .entry)))) ⌝ }
+    ensures { λ r. ⌜
+        (let x = prefixesOf (now («t_hist» .entry)) (now («r_hist» .entry)) «seq_len» batch (now («seq_lens» .entry))
+        (now («delta_ts» .entry)) (now (labels .entry)) (now (weights .entry)) in
+        (r ≡ batchLossAndGrad (now (w .entry)) x (length (now (gw .entry))) (length (now (records .entry)))) ×
+        BatchLeaves (now (w .entry)) x (now (gw .entry)) (now (records .entry)) (now (gw .exit)) (now (records .exit))) ⌝ }
 {
     let slots = gw.len();
     let space = room(records);

@@ -28,10 +28,14 @@ same-length-4 c = search needs
 returns : tie.Need-returns
 unfolding callLoss callSlots
 returns c =
-    let e = c .before .before .before .before .run-prefixes .ensures in
-    let kind = eq-eqb _ 1 (c .before .before .before .before .before .before .before .before .before .if1 .taken) in (
-      rw kind (rw (c .before .before .before .before .before .before .before .before .before .before .before .before .before .fill-words .ensures, c .before .before .before .before .before .before .before .before .before .before .before .before .before .before .before .before .before .fill-singles .ensures) at (e .0)),
-      rw kind (rw (c .before .before .before .before .before .before .before .before .before .before .before .before .before .fill-words .ensures, c .before .before .before .before .before .before .before .before .before .before .before .before .before .before .before .before .before .fill-singles .ensures) at (e .1)),
+    let at-run-prefixes = c .before .before .before .before in
+    let at-if1 = at-run-prefixes .before .before .before .before .before in
+    let at-fill-words = at-if1 .before .before .before .before in
+    let at-fill-singles = at-fill-words .before .before .before .before in
+    let e = at-run-prefixes .run-prefixes .ensures in
+    let kind = eq-eqb _ 1 (at-if1 .if1 .taken) in (
+      rw kind (rw (at-fill-words .fill-words .ensures, at-fill-singles .fill-singles .ensures) at (e .0)),
+      rw kind (rw (at-fill-words .fill-words .ensures, at-fill-singles .fill-singles .ensures) at (e .1)),
     )
 
 run-cards-requires : tie.Need-run-cards-requires
@@ -55,10 +59,14 @@ same-length-9 c = search needs
 returns-2 : tie.Need-returns-2
 unfolding callLoss callSlots
 returns-2 c =
-    let e = c .before .before .before .before .before .before .run-cards .ensures in
-    let kind = ne-eqb _ 1 (c .before .before .before .before .before .before .before .before .before .before .before .before .if1 .left) in (
-      rw kind (rw (c .before .before .before .before .before .before .before .before .before .before .before .before .before .before .before .before .fill-words .ensures, c .before .before .before .before .before .before .before .before .before .before .before .before .before .before .before .before .before .before .before .before .fill-singles .ensures) at (e .0)),
-      rw kind (rw (c .before .before .before .before .before .before .before .before .before .before .before .before .before .before .before .before .fill-words .ensures, c .before .before .before .before .before .before .before .before .before .before .before .before .before .before .before .before .before .before .before .before .fill-singles .ensures) at (e .1)),
+    let at-run-cards = c .before .before .before .before .before .before in
+    let at-if1 = at-run-cards .before .before .before .before .before .before in
+    let at-fill-words = at-if1 .before .before .before .before in
+    let at-fill-singles = at-fill-words .before .before .before .before in
+    let e = at-run-cards .run-cards .ensures in
+    let kind = ne-eqb _ 1 (at-if1 .if1 .left) in (
+      rw kind (rw (at-fill-words .fill-words .ensures, at-fill-singles .fill-singles .ensures) at (e .0)),
+      rw kind (rw (at-fill-words .fill-words .ensures, at-fill-singles .fill-singles .ensures) at (e .1)),
     )
 
 pub run-call-spec : {M : Type 1} → statement M

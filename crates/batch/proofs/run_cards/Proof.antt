@@ -78,9 +78,11 @@ same-length-3 c = search needs
 returns : tie.Need-returns
 unfolding cardLossIn cardSlotsIn
 returns c =
-    let e = c .before .before .before .before .before .before .card-loss-and-grad .ensures in
-    let n = c .before .before .before .before .before .before .before .before .before .before .before .before .before .before .before .before .before .before .before .before .pre in
-    (rw (n .1, n .2) at (e .0), rw (n .1, n .2) at (e .1))
+    let at-card-loss-and-grad = c .before .before .before .before .before .before in
+    let at-pre = at-card-loss-and-grad .before .before .before .before .before .before .before .before .before .before .before .before .before .before in
+    let e = at-card-loss-and-grad .card-loss-and-grad .ensures in
+    let n = at-pre .pre in
+    (rw (n .1, n .2) at (e .0), rw (n .1, n .2) at (e .1 .0))
 
 pub run-cards-spec : {M : Type 1} → statement M
 run-cards-spec =

@@ -87,9 +87,11 @@ same-length-2 c = search needs
 returns : tie.Need-returns
 unfolding prefixLossIn prefixSlotsIn
 returns c =
-    let e = c .before .before .before .before .batch-loss-and-grad .ensures in
-    let n = c .before .before .before .before .before .before .before .before .before .before .before .before .before .before .before .before .before .pre .1 in
-    (rw n at (e .0), rw n at (e .1))
+    let at-batch-loss-and-grad = c .before .before .before .before in
+    let at-pre = at-batch-loss-and-grad .before .before .before .before .before .before .before .before .before .before .before .before .before in
+    let e = at-batch-loss-and-grad .batch-loss-and-grad .ensures in
+    let n = at-pre .pre .1 in
+    (rw n at (e .0), rw n at (e .1 .0))
 
 pub run-prefixes-spec : {M : Type 1} → statement M
 run-prefixes-spec =

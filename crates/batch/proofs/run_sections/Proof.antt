@@ -44,8 +44,10 @@ same-length-5 c = search needs
 
 returns : tie.Need-returns
 returns c =
-    let e = c .before .before .before .before .before .before .before .before .before .before .run-call .ensures in
-    let s = c .before .before .before .before .before .before .before .before .before .before .before .before .before .before .before .before .before .before .before .before .before .before .before in
+    let at-run-call = c .before .before .before .before .before .before .before .before .before .before in
+    let at-before = at-run-call .before .before .before .before .before .before .before .before .before .before .before .before in
+    let e = at-run-call .run-call .ensures in
+    let s = at-before .before in
     let n = part-length (s .args .h .end) (s .args .cells .now) (s .pre .1) in
     let m = part-length (s .args .h .columns) (s .args .lens .now) (s .pre .2) in
     (rw (n, m) at (e .0), rw (n, m) at (e .1))

@@ -7,7 +7,7 @@ use native.Mathlib.Numerals.{add-one}
 use borrow.Author.Tests.{eq-eqb, ne-eqb, eqb-true}
 use lib.Dec.{T, eqb}
 use Rattle.checks.specs.Faults.{noFault, faultAt, orElse, firstFault}
-use Rattle.checks.specs.declared.faults.place.Fault.{Fault}
+use Rattle.checks.specs.declared.fault.Fault.{Fault}
 
 -- a fault without a number is none
 abbrev pub Blank : Fault → Type 0
@@ -77,16 +77,3 @@ no-row n column row e = rw (eq-eqb n 0 e)
 pub bad-row : (n column row : ℕ) → (n ≡ 0 → ⊥) → faultAt n column row ≡ record { refusal = n; column = column; row = row }
 unfolding faultAt
 bad-row n column row h = rw (ne-eqb n 0 h)
-
--- one number for each row of a column
-module _ (g : ℕ → ℕ) (column : ℕ) where
-  pub rows-more :
-      (k : ℕ) → firstFault (λ row. faultAt (g row) column row) k ≡ noFault → g k ≡ 0 → firstFault (λ row. faultAt (g row) column row) (k + 1) ≡ noFault
-  rows-more k e h = more (λ row. faultAt (g row) column row) k e (no-row (g k) column k h)
-
-  pub rows-hit :
-      (k n : ℕ) → k < n → firstFault (λ row. faultAt (g row) column row) k ≡ noFault → (g k ≡ 0 → ⊥) →
-      firstFault (λ row. faultAt (g row) column row) n ≡ record { refusal = g k; column = column; row = k }
-  rows-hit k n l e h =
-      let b = bad-row (g k) column k h in
-      hit (λ row. faultAt (g row) column row) k n l e (λ z. h (sym (ap (λ (x : Fault). x .refusal) b) ∙ z)) ∙ b

@@ -1,9 +1,9 @@
 // The cells that a card reads.
 ghost use mathlib.Core.Path.{_≡_};
-ghost use Rattle.checks.specs.Batch.{cardsOf};
+ghost use Rattle.checks.specs.Batch.{view, historyOf, cardsOf};
 ghost use Rattle.checks.specs.Faults.{cardRows, cardColumn, cardFault};
+use crate::fault::Fault;
 use crate::faults::found::no_fault;
-use crate::faults::place::Fault;
 use crate::reads::card_row;
 use crate::tables::cell_of;
 use crate::tables::cut_length;
@@ -18,7 +18,9 @@ fn card_rows(
     column: u32,
     n: u32,
 ) -> Fault
-    ensures { λ r. ⌜ r ≡ cardRows (now («t_hist» .entry)) (now («r_hist» .entry)) batch (now (labels .entry)) (now (weights .entry)) column n ⌝ }
+    ensures { λ r. ⌜
+        r ≡ cardRows (historyOf (now («t_hist» .entry)) (now («r_hist» .entry)) batch column)
+        (view (now (labels .entry)) batch column) (view (now (weights .entry)) batch column) column n ⌝ }
 {
     let mut i = 0;
     while i < n {
@@ -50,7 +52,9 @@ fn card_column(
     weights: &[f32],
     column: u32,
 ) -> Fault
-    ensures { λ r. ⌜ r ≡ cardColumn (cardsOf (now («t_hist» .entry)) (now («r_hist» .entry)) «seq_len» batch (now («seq_lens» .entry)) (now (labels .entry)) (now (weights .entry))) column ⌝ }
+    ensures { λ r. ⌜
+        r ≡ cardColumn (cardsOf (now («t_hist» .entry)) (now («r_hist» .entry)) «seq_len» batch (now («seq_lens» .entry))
+        (now (labels .entry)) (now (weights .entry))) column ⌝ }
 {
     let n = cut_length(seq_lens, seq_len, column);
     card_rows(t_hist, r_hist, batch, labels, weights, column, n)
@@ -66,7 +70,9 @@ pub fn card_fault(
     labels: &[f32],
     weights: &[f32],
 ) -> Fault
-    ensures { λ r. ⌜ r ≡ cardFault (cardsOf (now («t_hist» .entry)) (now («r_hist» .entry)) «seq_len» batch (now («seq_lens» .entry)) (now (labels .entry)) (now (weights .entry))) ⌝ }
+    ensures { λ r. ⌜
+        r ≡ cardFault (cardsOf (now («t_hist» .entry)) (now («r_hist» .entry)) «seq_len» batch (now («seq_lens» .entry))
+        (now (labels .entry)) (now (weights .entry))) ⌝ }
 {
     let mut c = 0;
     while c < batch {

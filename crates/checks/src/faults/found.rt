@@ -1,7 +1,7 @@
 // A fault that was found, or none.
 ghost use mathlib.Core.Path.{_≡_};
 ghost use Rattle.checks.specs.Faults.{noFault, faultAt};
-use crate::faults::place::Fault;
+use crate::fault::Fault;
 
 pub fn no_fault() -> Fault
     ensures { λ r. ⌜ r ≡ noFault ⌝ }

@@ -1,10 +1,10 @@
 // The cells that a prefix reads.
 ghost use mathlib.Core.Path.{_≡_};
-ghost use Rattle.checks.specs.Batch.{prefixesOf};
+ghost use Rattle.checks.specs.Batch.{historyOf, prefixesOf};
 ghost use Rattle.checks.specs.Faults.{prefixRows, targetFault, prefixColumn, prefixFault};
+use crate::fault::Fault;
 use crate::faults::found::fault_at;
 use crate::faults::found::no_fault;
-use crate::faults::place::Fault;
 use crate::reads::prefix_row;
 use crate::reads::target_row;
 use crate::tables::cell_of;
@@ -12,7 +12,7 @@ use crate::tables::cut_length;
 use crate::tables::read;
 
 fn prefix_rows(t_hist: &[f32], r_hist: &[f32], batch: u32, column: u32, n: u32) -> Fault
-    ensures { λ r. ⌜ r ≡ prefixRows (now («t_hist» .entry)) (now («r_hist» .entry)) batch column n ⌝ }
+    ensures { λ r. ⌜ r ≡ prefixRows (historyOf (now («t_hist» .entry)) (now («r_hist» .entry)) batch column) column n ⌝ }
 {
     let mut i = 0;
     while i < n {
@@ -53,7 +53,9 @@ fn prefix_column(
     weights: &[f32],
     column: u32,
 ) -> Fault
-    ensures { λ r. ⌜ r ≡ prefixColumn (prefixesOf (now («t_hist» .entry)) (now («r_hist» .entry)) «seq_len» batch (now («seq_lens» .entry)) (now («delta_ts» .entry)) (now (labels .entry)) (now (weights .entry))) column ⌝ }
+    ensures { λ r. ⌜
+        r ≡ prefixColumn (prefixesOf (now («t_hist» .entry)) (now («r_hist» .entry)) «seq_len» batch (now («seq_lens» .entry))
+        (now («delta_ts» .entry)) (now (labels .entry)) (now (weights .entry))) column ⌝ }
 {
     let n = cut_length(seq_lens, seq_len, column);
     if n == 0 {
@@ -81,7 +83,9 @@ pub fn prefix_fault(
     labels: &[f32],
     weights: &[f32],
 ) -> Fault
-    ensures { λ r. ⌜ r ≡ prefixFault (prefixesOf (now («t_hist» .entry)) (now («r_hist» .entry)) «seq_len» batch (now («seq_lens» .entry)) (now («delta_ts» .entry)) (now (labels .entry)) (now (weights .entry))) ⌝ }
+    ensures { λ r. ⌜
+        r ≡ prefixFault (prefixesOf (now («t_hist» .entry)) (now («r_hist» .entry)) «seq_len» batch (now («seq_lens» .entry))
+        (now («delta_ts» .entry)) (now (labels .entry)) (now (weights .entry))) ⌝ }
 {
     let mut c = 0;
     while c < batch {

@@ -7,12 +7,12 @@ use Rattle.domain.specs.Limits.{zero32, one}
 use Rattle.domain.specs.Weights.{_!_}
 use Rattle.forward.specs.Stability.{shortDef, lapseMove, lapseDef, successDef}
 use Rattle.forward.specs.declared.parameters.RuntimeParams.{RuntimeParams}
-use Rattle.forward.specs.declared.stability.Branch.{Branch}
-use Rattle.forward.specs.declared.stability.Branch.the-variants.{Padding, First, SameDay, Lapse, Success}
-use Rattle.forward.specs.declared.stability.Move.{Move}
-use Rattle.forward.specs.declared.stability.State.{State}
+use Rattle.forward.specs.declared.state.Branch.{Branch}
+use Rattle.forward.specs.declared.state.Branch.the-variants.{Padding, First, SameDay, Lapse, Success}
+use Rattle.forward.specs.declared.state.Move.{Move}
+use Rattle.forward.specs.declared.state.State.{State}
 use Rattle.forward.specs.Step.{ratingNumber, isFirst, moveDef, paddingDef, firstDef, reviewDef, stepDef}
-use Rattle.forward.specs.declared.step.Stepped.{Stepped}
+use Rattle.forward.specs.declared.state.Stepped.{Stepped}
 use Rattle.columns.specs.Records.{plainCells, chosenCells, branchCells, branchOf, readBack}
 
 -- a branch is read back from its numbers
@@ -51,7 +51,7 @@ short-back w17 w18 w19 s rating = same-day _ _ _ rating
 
 move-back : (raw floor rating : Float) → Back (lapseMove raw floor .branch) rating
 unfolding lapseMove
-move-back raw floor rating = pick (lt floor raw) _ _ rating (lapse raw floor true rating) (lapse raw floor false rating)
+move-back raw floor rating = lapse raw floor (lt floor raw) rating
 
 lapse-back : (w11 w12 w13 w14 divisor : Float) (last : State) (r rating : Float) → Back (lapseDef w11 w12 w13 w14 divisor last r .branch) rating
 unfolding lapseDef

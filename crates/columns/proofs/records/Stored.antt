@@ -9,8 +9,8 @@ use lib.Ieee.{Float, nan}
 use lib.ListN.{getD, length, length-set, set}
 use lib.Seq.{getD-set-same, getD-set-other}
 use Rattle.domain.specs.Weights.{_!_}
-use Rattle.forward.specs.declared.step.StepRecord.{StepRecord}
-use Rattle.columns.specs.Records.{place, roomDef, values, branchValues, putAll, storeDef, loadBranch, loadDef, readBack}
+use Rattle.forward.specs.declared.state.StepRecord.{StepRecord}
+use Rattle.columns.specs.Records.{place, roomDef, stepValues, branchValues, putAll, storeDef, loadBranch, loadDef, readBack}
 use Rattle.columns.proofs.records.Apart.{other-row, later-field, inside}
 
 module _ (cells row : ℕ) where
@@ -45,21 +45,21 @@ unfolding storeDef
 stored-length row c xs = put-length _ row 7 _ _ ∙ put-length _ row 0 _ xs
 
 module _ (row : ℕ) (c : StepRecord) (xs : List Float) (l : row < roomDef (length xs)) where
-  value : (j : ℕ) → j < 7 → storeDef row c xs ! place (length xs) j row ≡ values c ! j
-  unfolding storeDef values
+  value : (j : ℕ) → j < 7 → storeDef row c xs ! place (length xs) j row ≡ stepValues c ! j
+  unfolding storeDef stepValues
   value j h =
       elsewhere (length xs) row (place (length xs) j row) 7 _ _ (λ g k. later-field (length xs) row l j g (lt-of-lt-of-le h k)) ∙
       subst
-      (λ (f : ℕ). putAll (length xs) row 0 (values c) xs ! place (length xs) f row ≡ values c ! j)
+      (λ (f : ℕ). putAll (length xs) row 0 (stepValues c) xs ! place (length xs) f row ≡ stepValues c ! j)
       (zero-add j)
-      (found (length xs) row l j 0 (values c) xs h (omega (arith, h)) refl)
+      (found (length xs) row l j 0 (stepValues c) xs h (omega (arith, h)) refl)
 
   branch-value : (j : ℕ) → j < 3 → storeDef row c xs ! place (length xs) (7 + j) row ≡ branchValues (c .branch) ! j
   unfolding storeDef branchValues
   branch-value j h = found (length xs) row l j 7 (branchValues (c .branch)) _ h (omega (arith, h)) (sym (put-length _ row 0 _ xs))
 
   pub stored-read : loadDef row (storeDef row c xs) ≡ readBack c
-  unfolding loadDef loadBranch readBack values branchValues
+  unfolding loadDef loadBranch readBack stepValues branchValues
   stored-read =
       rw (
         stored-length row c xs,

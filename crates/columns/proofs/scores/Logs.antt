@@ -19,7 +19,7 @@ use lib.Ieee.Scale.{grid, round-val, round-under}
 use Rattle.table.specs.Exact.{N}
 use Rattle.table.specs.Entry.{entry}
 use Rattle.table.proofs.Entries.{entry-zero}
-use Rattle.kernels.specs.Core.{downs, horner, index, gap, below, logAt, moved, logarithm}
+use Rattle.kernels.specs.Core.{downs, horner, index, gap, lnBelow, fixedLog, moved, logarithm}
 use Rattle.kernels.specs.Kernels.{lnDef}
 use Rattle.kernels.proofs.Definitions.First.{index-found}
 use Rattle.kernels.proofs.Definitions.Range.{horner-up}
@@ -69,12 +69,12 @@ least : (g : ℕ) → 2 ^ 63 ≤ horner (downs binary32) g
 unfolding horner downs
 least g = le-add-right (2 ^ 63) _
 
-below-le : (g : ℕ) → g ≤ 2 ^ 64 → below binary32 g ≤ 2 ^ 70
-unfolding below
+below-le : (g : ℕ) → g ≤ 2 ^ 64 → lnBelow binary32 g ≤ 2 ^ 70
+unfolding lnBelow
 below-le g h = le-trans {m = 2 ^ 67} (div-le-of-le-mul (2 ^ 63) (mul-le-mul h (le-trans (horner-up (downs binary32) h) most))) (lit≤ tt)
 
-below-pos : (g : ℕ) → 0 < g → 0 < below binary32 g
-unfolding below
+below-pos : (g : ℕ) → 0 < g → 0 < lnBelow binary32 g
+unfolding lnBelow
 below-pos g h = le-div-iff-mul-le (pow-pos 63) .1 (mul-le-mul h (least g))
 
 gap-le : (i M : ℕ) → gap i M ≤ 2 ^ 64
@@ -97,11 +97,11 @@ abbrev Exponent : ℤ → Type 0
 Exponent (pos k) = k < 1000
 Exponent (negsuc k) = k < 1000
 
-mag-le : (k : ℤ) (i l : ℕ) → i ≤ 256 → l ≤ 2 ^ 70 → Exponent k → logAt k i l .mag ≤ 2 ^ 100
+mag-le : (k : ℤ) (i l : ℕ) → i ≤ 256 → l ≤ 2 ^ 70 → Exponent k → fixedLog k i l .mag ≤ 2 ^ 100
 mag-le (pos k) i l a b h = omega arith
 mag-le (negsuc k) i l a b h = omega arith
 
-mag-pos : (k : ℤ) (i l : ℕ) → i ≤ 256 → (i ≡ 256 → 0 < l) → T (logAt k i l .negative) → 0 < logAt k i l .mag
+mag-pos : (k : ℤ) (i l : ℕ) → i ≤ 256 → (i ≡ 256 → 0 < l) → T (fixedLog k i l .negative) → 0 < fixedLog k i l .mag
 mag-pos (pos k) i l a b t = absurd t
 mag-pos (negsuc k) i l a b t = elim (eq-or-lt-of-le a) [ inl e ↦ last k i l (b e) | inr h ↦ before k i l h ]
   where
@@ -143,11 +143,11 @@ ln-plain (fin false zero e) k h = absurd h
 ln-plain (fin false (suc m) e) k h =
     let M = moved (suc m) in
     let i = index M in
-    let l = below binary32 (gap i M) in
+    let l = lnBelow binary32 (gap i M) in
     let k' = e +ℤ pos (size (suc m) - 1) in
     let w : M < 2 ^ 63 = normalised-lt (suc m) (lt-of-lt-of-le (digits-below binary32 false m e k) (lit≤ tt)) in
     let a : i ≤ 256 = index-found M (le-of-lt w) .most in
-    round-plain (logAt k' i l .negative) (logAt k' i l .mag)
+    round-plain (fixedLog k' i l .negative) (fixedLog k' i l .mag)
     (mag-pos k' i l a (λ (q : i ≡ 256). below-pos (gap i M) (subst (λ (j : ℕ). 0 < gap j M) (sym q) (gap-pos M w))))
     (mag-le k' i l a (below-le (gap i M) (gap-le i M)) (exponent m e (size (suc m) - 1) (digits m (digits-below binary32 false m e k)) (not-low binary32 false m e k) (not-high binary32 false m e k)))
 

@@ -1,8 +1,8 @@
 -- What an accepted weight set is known for. Assumes nothing.
 use Prim.Native.Nat.{ℕ}
-use mathlib.Core.Path.{_≡_, refl, ap, sym, subst}
 use mathlib.Core.Bool.{Bool, true, false, cond}
 use mathlib.Core.List.{List}
+use mathlib.Core.Path.{_≡_, refl, ap, sym, subst}
 use lib.Dec.{T, eqb}
 use lib.Ieee.{Float}
 use lib.ListN.{length}

@@ -1,9 +1,9 @@
 -- `all` by one more entry, and by one that fails. Assumes nothing.
 use Prim.Native.Nat.{ℕ, zero, suc, _+_, _<_}
-use mathlib.Core.Path.{_≡_, refl}
 use mathlib.Core.Bool.{Bool, true, false, _&&_}
 use mathlib.Core.List.{List}
 use mathlib.Core.Logic.{⊎-elim}
+use mathlib.Core.Path.{_≡_, refl}
 use native.Mathlib.Nat.{not-suc-le-zero, eq-or-lt-of-le, le-of-suc-le-suc}
 use native.Mathlib.Numerals.{add-one}
 use lib.Ieee.{Float}
@@ -27,7 +27,9 @@ pub none : (test : ℕ → Float → Bool) (w : List Float) → all test 0 w ≡
 unfolding all
 none test w = refl
 
-pub more : (test : ℕ → Float → Bool) (k : ℕ) (w : List Float) → all test k w ≡ true → test k (w ! k) ≡ true → all test (k + 1) w ≡ true
+pub more :
+    (test : ℕ → Float → Bool) (k : ℕ) (w : List Float) → all test k w ≡ true → test k (w ! k) ≡ true
+    → all test (k + 1) w ≡ true
 unfolding all
 more test k w h e = rw (add-one, h, e)
 
@@ -35,4 +37,7 @@ pub miss : (test : ℕ → Float → Bool) (n k : ℕ) (w : List Float) → k < 
 unfolding all
 miss test zero k w h e = absurd (not-suc-le-zero h)
 miss test (suc n) k w h e =
-    ⊎-elim (λ (q : k ≡ n). rw (← q, e, and-false)) (λ (l : k < n). not-left _ _ (miss test n k w l e)) (eq-or-lt-of-le (le-of-suc-le-suc h))
+    ⊎-elim
+    (λ (q : k ≡ n). rw (← q, e, and-false))
+    (λ (l : k < n). not-left _ _ (miss test n k w l e))
+    (eq-or-lt-of-le (le-of-suc-le-suc h))

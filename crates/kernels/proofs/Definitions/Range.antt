@@ -10,7 +10,7 @@ use lib.Ieee.{Format, binary32, binary64}
 use Rattle.table.specs.Exact.{N, P, taylor, fact}
 use Rattle.table.specs.Entry.{entry}
 use Rattle.kernels.specs.Core.{ups, high, horner, mantissa}
-use Rattle.kernels.specs.Steps.{Significand}
+use Rattle.kernels.specs.inner.Exp.{Significand}
 use Rattle.table.proofs.Every.{every, at}
 use Rattle.table.proofs.Entries.{powers, entry-at, entry-ge}
 

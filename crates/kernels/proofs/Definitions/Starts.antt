@@ -2,24 +2,21 @@
 use mathlib.Core.Path.{_≡_, sym, ap, _∙_, subst}
 use mathlib.Core.Bool.{Bool, true, _&&_}
 use Prim.Native.Nat.{ℕ, zero, suc, _+_, _-_, _*_, _/_, _^_, _≤_, _<_}
-use native.Mathlib.Nat.{le-trans, le-of-lt, lt-of-lt-of-le, lt-of-le-of-lt, lt-irrefl, le-of-eq, not-suc-le-zero, mul-le-mul}
+use native.Mathlib.Nat.{le-trans, le-of-lt, lt-of-lt-of-le, lt-of-le-of-lt, lt-irrefl, le-of-eq, not-suc-le-zero}
 use native.Mathlib.Numerals.{add-one}
 use native.Mathlib.Omega.{arith}
 use borrow.Author.Count.{below-more}
 use lib.Arith.{lt-of-le-ne}
-use lib.Dec.{T, leb, ltb, leb→le, ltb→lt, lit≤}
+use lib.Dec.{T, leb, ltb, leb→le, ltb→lt}
 use lib.Ieee.Fits.{and-l, and-r}
 use Rattle.table.specs.Exact.{P, taylor, fact}
 use Rattle.table.specs.Entry.{entry}
+use Rattle.table.specs.Start.{startDef}
 use Rattle.kernels.specs.Core.{index}
-use Rattle.kernels.specs.Steps.{Start}
+use Rattle.kernels.specs.inner.Ln.{Start}
 use Rattle.table.proofs.Every.{all, all-at}
 use Rattle.table.proofs.Entries.{entry-last}
 use Rattle.kernels.proofs.Definitions.First.{ordered, index-is}
-
--- the code's cubic
-abbrev pub guess : ℕ → ℕ
-guess k = (124802494 + k * (95504896 - k * (77430 - k * 43))) / 2 ^ 27
 
 -- the entry before s lies below m's interval
 abbrev under : (s low : ℕ) → Bool
@@ -32,7 +29,7 @@ fair-at k s = leb s 256 && under s ((512 + k) * 2 ^ 53) && leb ((513 + k) * 2 ^ 
 
 fair : ℕ → Bool
 unfolding fair-at
-fair k = fair-at k (guess k)
+fair k = fair-at k (startDef k)
 
 under-all : (m low s : ℕ) → low ≤ m → s ≤ 256 → T (under s low) → (j : ℕ) → j < s → entry j < m
 under-all m low zero a b t j h = absurd (not-suc-le-zero h)
@@ -55,10 +52,10 @@ passes : T (all fair 0 512)
 unfolding fair entry P taylor fact
 passes = tt
 
-pub start-is : (m : ℕ) → 2 ^ 62 ≤ m → m < 2 ^ 63 → Start m (guess (place m))
+pub start-is : (m : ℕ) → 2 ^ 62 ≤ m → m < 2 ^ 63 → Start m (startDef (place m))
 unfolding fair fair-at
 start-is m h k =
-    let s = guess (place m) in
+    let s = startDef (place m) in
     let p : T (fair (place m)) = all-at fair 512 passes (place m) (place-lt m h k) in
     let u = and-l (leb s 256 && under s ((512 + place m) * 2 ^ 53)) (leb ((513 + place m) * 2 ^ 53) (entry (s + 1))) p in
     let most : s ≤ 256 = leb→le s 256 (and-l (leb s 256) (under s ((512 + place m) * 2 ^ 53)) u) in
@@ -67,19 +64,6 @@ start-is m h k =
       passed = under-all m ((512 + place m) * 2 ^ 53) s (low-end m h) most (and-r (leb s 256) (under s ((512 + place m) * 2 ^ 53)) u);
       reached = le-trans (high-end m h) (leb→le ((513 + place m) * 2 ^ 53) (entry (s + 1)) (and-r (leb s 256 && under s ((512 + place m) * 2 ^ 53)) (leb ((513 + place m) * 2 ^ 53) (entry (s + 1))) p));
     }
-
--- ---- the cubic's products and differences
-product-le : (k x a b : ℕ) → k < a → x ≤ b → k * x ≤ a * b
-product-le k x a b h g = mul-le-mul (le-of-lt h) g
-
-pub inner : (k : ℕ) → k < 512 → k * (77430 - k * 43) ≤ 95504896
-inner k h = le-trans (product-le k (77430 - k * 43) 512 77430 h (omega arith)) (lit≤ tt)
-
-pub outer : (k : ℕ) → k < 512 → k * (95504896 - k * (77430 - k * 43)) ≤ 512 * 95504896
-outer k h = product-le k (95504896 - k * (77430 - k * 43)) 512 95504896 h (less 95504896 (k * (77430 - k * 43)))
-  where
-    less : (a b : ℕ) → a - b ≤ a
-    less a b = omega arith
 
 -- ---- the step up from a start
 not-last : (m r : ℕ) → m < 2 ^ 63 → r ≤ 256 → entry r < m → r + 1 ≤ 256

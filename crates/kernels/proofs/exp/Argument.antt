@@ -15,7 +15,7 @@ use lib.Ieee.Scale.{finite}
 use Rattle.soft.specs.declared.units.Units.{Units}
 use Rattle.soft.specs.Units.{unitsDef}
 use Rattle.soft.proofs.units.Value.{measured, digits-lt, leading, holds}
-use Rattle.kernels.specs.Kernels.{fromPower, cut, expDef}
+use Rattle.kernels.specs.Kernels.{fromPower, wholeOf, expDef}
 use Rattle.kernels.proofs.Definitions.Cases.{past}
 
 -- ---- a negated test, on a flag r that says whether x is finite
@@ -40,7 +40,7 @@ unfolding expDef
 at-units f nan s n h = absurd h
 at-units f (inf t) s n h = absurd h
 at-units f (fin t m e) s n (g, h) =
-    ap (λ (b : Bool). fromPower f b (cut m e (2 ^ 72))) g ∙ ap (fromPower f s) (cut-is m (up e) (down e) n (down-pos e) h)
+    ap (λ (b : Bool). fromPower f b (wholeOf m e (2 ^ 72))) g ∙ ap (fromPower f s) (cut-is m (up e) (down e) n (down-pos e) h)
 
 -- from 1032 places on the number is 2 ^ 82 or more
 far : (d p : ℕ) → 2 ^ 52 ≤ d → 1032 ≤ p → 2 ^ 82 ≤ d * 2 ^ p / 2 ^ 1002
@@ -54,7 +54,7 @@ pub record Operand (x : Float) (u : Units) : Type 0 where
 
 module _ (f : Format) (x : Float) (u : Units) (o : Operand x u) where
   pub digits-in : u .digits < 2 ^ 53
-  digits-in = subst (λ (v : Units). v .digits < 2 ^ 53) (sym (o .measure-is)) (digits-lt binary64 x (o .held) (holds (o .finite-is)))
+  digits-in = subst (λ (v : Units). v .digits < 2 ^ 53) (sym (o .measure-is)) (digits-lt binary64 x)
 
   pub argument : expDef f x ≡ fromPower f (u .negative) (u .digits * 2 ^ u .places / 2 ^ 1002)
   argument =
@@ -64,7 +64,7 @@ module _ (f : Format) (x : Float) (u : Units) (o : Operand x u) where
   above : 1031 < u .places → 2 ^ 82 ≤ u .digits * 2 ^ u .places / 2 ^ 1002
   above h =
       far (u .digits) (u .places)
-      (subst (λ (v : Units). 0 < v .places → 2 ^ 52 ≤ v .digits) (sym (o .measure-is)) (leading binary64 x (o .held) (holds (o .finite-is))) (le-trans (lit≤ tt) h))
+      (subst (λ (v : Units). 0 < v .places → 2 ^ 52 ≤ v .digits) (sym (o .measure-is)) (leading binary64 x) (le-trans (lit≤ tt) h))
       h
 
   pub saturated : 1031 < u .places → (b : Bool) → u .negative ≡ b → cond b (fin false 0 (pos 0)) (inf false) ≡ expDef f x

@@ -6,7 +6,7 @@ use native.Mathlib.Omega.{arith}
 use lib.Dec.{lit<}
 use lib.Pow.{pow-pos, pow-add, pow-mono, shl-exact, shl-lt}
 use Rattle.kernels.specs.declared.exp.power.Words.{Words}
-use Rattle.kernels.specs.ExpSteps.{Holds}
+use Rattle.kernels.specs.inner.Exp.{Holds}
 
 -- `1 << n`
 abbrev pub unit : ℕ → ℕ

@@ -11,8 +11,7 @@ use lib.Ieee.{Float, nan, inf, fin, Format, round}
 use lib.Ieee.Positive.{positive}
 use Rattle.soft.specs.Pack.{packWideDef}
 use Rattle.kernels.specs.Kernels.{lnDef}
-use Rattle.kernels.specs.Steps.{logOf}
-use Rattle.kernels.specs.LnSteps.{Logged}
+use Rattle.kernels.specs.inner.Ln.{logOf, Logged}
 use Rattle.kernels.specs.declared.logarithm.Log.{Log}
 
 pub no-log : (f : Format) (x : Float) → positive x ≡ false → nan ≡ lnDef f x

@@ -15,10 +15,10 @@ use Rattle.soft.proofs.Rounding.Basics.{pos-of}
 use Rattle.soft.proofs.Rounding.Pattern.{pattern-not-nan, twice-hid}
 use Rattle.soft.proofs.Rounding.Place.{placed, kept-le}
 use Rattle.soft.proofs.Rounding.Sticky.{cut-rounds, keeps}
-use Rattle.soft.specs.Cuts.{Cut}
+use Rattle.soft.specs.inner.Cuts.{Cut}
 use Rattle.soft.specs.Pack.{packWideDef}
 use Rattle.soft.specs.declared.pack.Scaled.{Scaled}
-use Rattle.kernels.specs.LnSteps.{Led}
+use Rattle.kernels.specs.inner.Ln.{Led}
 
 -- ---- the rounding: g digits are lost, and the field counts from p
 zero-off : (x : ℕ) → x - 0 ≡ x

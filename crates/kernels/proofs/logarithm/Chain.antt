@@ -13,8 +13,8 @@ use Rattle.soft.specs.declared.wide.Wide.{Wide}
 use Rattle.soft.specs.Value.{valueOf}
 use Rattle.soft.proofs.wide.Laws.{low-is}
 use Rattle.kernels.proofs.Definitions.Words.{parts}
-use Rattle.kernels.specs.Core.{high, horner, downs, below, Fixed}
-use Rattle.kernels.specs.LnSteps.{Logged}
+use Rattle.kernels.specs.Core.{high, horner, downs, lnBelow, Fixed}
+use Rattle.kernels.specs.inner.Ln.{Logged}
 
 -- ---- a term more
 upper : (h l p x : ℕ) → h * 2 ^ 64 + l ≡ x → x ≤ 2 ^ 63 * p → 2 * h ≤ p
@@ -38,8 +38,8 @@ next c cs g p r e k = k ∙ ap (λ (x : ℕ). c + high g x) e
 pub scaled-is : (g p : ℕ) (v w : Wide) → g ≤ 2 ^ 63 → p < 2 ^ 64 → w .low < 2 ^ 64 → valueOf v ≡ g * p → valueOf w ≡ valueOf v / 2 ^ 63 → w .low ≡ g * p / 2 ^ 63
 scaled-is g p v w a b l e k = low-is w (g * p / 2 ^ 63) l (k ∙ ap (λ (x : ℕ). x / 2 ^ 63) e) ∙ mod-eq-of-lt (lt-of-le-of-lt (div-le-of-le-mul (2 ^ 63) (mul-le-mul-right p a)) b)
 
-pub below-is : (f : Format) (g p r : ℕ) → p ≡ horner (downs f) g → r ≡ g * p / 2 ^ 63 → r ≡ below f g
-unfolding below
+pub below-is : (f : Format) (g p r : ℕ) → p ≡ horner (downs f) g → r ≡ g * p / 2 ^ 63 → r ≡ lnBelow f g
+unfolding lnBelow
 below-is f g p r e k = k ∙ ap (λ (x : ℕ). g * x / 2 ^ 63) e
 
 -- ---- words of 50 and 32 digits

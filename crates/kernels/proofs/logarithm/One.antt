@@ -16,8 +16,8 @@ use Rattle.soft.proofs.Rounding.Place.{round-none}
 use Rattle.table.specs.Exact.{P, taylor, fact}
 use Rattle.table.specs.Entry.{entry}
 use Rattle.soft.proofs.units.Value.{holds}
-use Rattle.kernels.specs.Core.{ups, mantissa, firstFrom, horner, gap, below, Fixed, logAt, logarithm}
-use Rattle.kernels.specs.Kernels.{finish, fromPower, cut, powered, powAt, powDef, lnDef}
+use Rattle.kernels.specs.Core.{ups, mantissa, firstFrom, horner, gap, lnBelow, Fixed, fixedLog, logarithm}
+use Rattle.kernels.specs.Kernels.{finish, fromPower, wholeOf, powered, powAt, powDef, lnDef}
 use Rattle.kernels.proofs.Definitions.Cases.{powered-finite, in-domain}
 
 abbrev one : Float
@@ -58,16 +58,16 @@ no-gap : gap 0 (2 ^ 62) ≡ 0
 unfolding gap entry
 no-gap = refl
 
-none-below : (f : Format) → below f 0 ≡ 0
-unfolding below
+none-below : (f : Format) → lnBelow f 0 ≡ 0
+unfolding lnBelow
 none-below f = ap (λ (x : ℕ). x / 2 ^ 63) (zero-mul (horner _ 0))
 
 log-one : (f : Format) → logarithm f 1 (pos 0) ≡ record { negative = false; mag = 0 }
 unfolding logarithm size span climb
 log-one f =
-    ap (λ (i : ℕ). logAt (pos 0) i (below f (gap i (2 ^ 62)))) (first 255 0 (2 ^ 62) (le-of-eq (sym entry-0)))
-    ∙ ap (λ (g : ℕ). logAt (pos 0) 0 (below f g)) no-gap
-    ∙ ap (λ (l : ℕ). logAt (pos 0) 0 l) (none-below f)
+    ap (λ (i : ℕ). fixedLog (pos 0) i (lnBelow f (gap i (2 ^ 62)))) (first 255 0 (2 ^ 62) (le-of-eq (sym entry-0)))
+    ∙ ap (λ (g : ℕ). fixedLog (pos 0) 0 (lnBelow f g)) no-gap
+    ∙ ap (λ (l : ℕ). fixedLog (pos 0) 0 l) (none-below f)
 
 ln-one : (f : Format) → lnDef f one ≡ fin false 0 (pos 0)
 unfolding lnDef
@@ -87,7 +87,7 @@ power-zero binary32 false = refl
 power-zero binary64 true = refl
 power-zero binary64 false = refl
 
-cut-none : (n : ℕ) (d : ℤ) → cut n d 0 ≡ 0
+cut-none : (n : ℕ) (d : ℤ) → wholeOf n d 0 ≡ 0
 cut-none n d = ap (λ (x : ℕ). x / down d) (mul-zero (n * up d)) ∙ zero-div (down d)
 
 pow-one : (f : Format) (y : Float) → T (powered y) → powDef f one y ≡ one

@@ -17,9 +17,8 @@ use Rattle.soft.proofs.Rounding.Exponent.{read, exponent-read}
 use Rattle.soft.proofs.Rounding.Place.{normalised-lt, normalised-ge, size-pos}
 use Rattle.soft.specs.declared.wide.Wide.{Wide}
 use Rattle.soft.specs.Value.{valueOf}
-use Rattle.kernels.specs.Core.{index, gap, below, Fixed, logAt, moved}
-use Rattle.kernels.specs.Steps.{logUnits}
-use Rattle.kernels.specs.LnSteps.{Logged}
+use Rattle.kernels.specs.Core.{index, gap, lnBelow, Fixed, fixedLog, moved}
+use Rattle.kernels.specs.inner.Ln.{logUnits, Logged}
 use Rattle.kernels.specs.declared.logarithm.Log.{Log}
 
 -- a double's exponent
@@ -98,8 +97,8 @@ module _ (k : ℤ) (n i l : ℕ) (a b : Wide) (hb : valueOf b ≡ l * 256) where
     pub up-short : n ≤ 1025 → i ≤ 256 → valueOf d < 2 ^ 82
     up-short x y = subst (λ (v : ℕ). v < 2 ^ 82) (sym up-value) (up-lt n i l x y)
 
-    pub up-log : (r : Log) → Logged (record { negative = false; mag = valueOf d }) r → Logged (logAt k i l) r
-    up-log r h = subst (λ (z : ℤ). Logged (logAt z i l) r) (sym e) (subst (λ (v : ℕ). Logged (record { negative = false; mag = v }) r) up-value h)
+    pub up-log : (r : Log) → Logged (record { negative = false; mag = valueOf d }) r → Logged (fixedLog k i l) r
+    up-log r h = subst (λ (z : ℤ). Logged (fixedLog z i l) r) (sym e) (subst (λ (v : ℕ). Logged (record { negative = false; mag = v }) r) up-value h)
 
   module _ (e : k ≡ negsuc (n - 1)) (p : 0 < n) (x : n ≤ 1074) (y : i ≤ 256) (z : l < 2 ^ 64) (ha : valueOf a ≡ (n * 256 - i) * N) (d : Wide) (hd : valueOf d ≡ (valueOf a + valueOf b) % 2 ^ 128) where
     down-value : valueOf d ≡ (n * 256 - i) * N + l * 256
@@ -114,13 +113,13 @@ module _ (k : ℤ) (n i l : ℕ) (a b : Wide) (hb : valueOf b ≡ l * 256) where
         steps : (n : ℕ) → 0 < n → n * 256 ≡ 256 * suc (n - 1)
         steps n p = omega arith
 
-    pub down-log : (r : Log) → Logged (record { negative = true; mag = valueOf d }) r → Logged (logAt k i l) r
-    down-log r h = subst (λ (w : ℤ). Logged (logAt w i l) r) (sym e) (subst (λ (v : ℕ). Logged (record { negative = true; mag = v }) r) (down-value ∙ same) h)
+    pub down-log : (r : Log) → Logged (record { negative = true; mag = valueOf d }) r → Logged (fixedLog k i l) r
+    down-log r h = subst (λ (w : ℤ). Logged (fixedLog w i l) r) (sym e) (subst (λ (v : ℕ). Logged (record { negative = true; mag = v }) r) (down-value ∙ same) h)
 
 -- ---- the whole of it, of m with the exponent k
-pub at-is : (f : Format) (m i g l : ℕ) (j k : ℤ) (r : Log) → i ≡ index m → g ≡ gap i m → l ≡ below f g → j ≡ k → Logged (logAt j i l) r → Logged (logAt k (index m) (below f (gap (index m) m))) r
+pub at-is : (f : Format) (m i g l : ℕ) (j k : ℤ) (r : Log) → i ≡ index m → g ≡ gap i m → l ≡ lnBelow f g → j ≡ k → Logged (fixedLog j i l) r → Logged (fixedLog k (index m) (lnBelow f (gap (index m) m))) r
 at-is f m i g l j k r a b c q t =
-    subst (λ (x : Fixed). Logged x r) (ap (λ (x : ℤ). logAt x i l) q ∙ ap₂ (λ (x y : ℕ). logAt k x y) a (c ∙ ap (below f) (b ∙ ap (λ (x : ℕ). gap x m) a))) t
+    subst (λ (x : Fixed). Logged x r) (ap (λ (x : ℤ). fixedLog x i l) q ∙ ap₂ (λ (x y : ℕ). fixedLog k x y) a (c ∙ ap (lnBelow f) (b ∙ ap (λ (x : ℕ). gap x m) a))) t
 
 -- and of d with z digits
 abbrev shifted : (d z : ℕ) → ℕ
@@ -143,8 +142,8 @@ module _ (d z : ℕ) (p : 0 < d) (h : d < 2 ^ 53) (e : z ≡ size d) where
   shifted-range = subst (λ (x : ℕ). (2 ^ 62 ≤ x) × (x < 2 ^ 63)) (sym shifted-is) (normalised-ge d p short, normalised-lt d short)
 
   pub log-is : (f : Format) (places : ℕ) (k : ℤ) (r : Log) → k ≡ minus (places + z) 1075
-      → Logged (logAt k (index (shifted d z)) (below f (gap (index (shifted d z)) (shifted d z)))) r → Logged (logUnits f d places) r
+      → Logged (fixedLog k (index (shifted d z)) (lnBelow f (gap (index (shifted d z)) (shifted d z)))) r → Logged (logUnits f d places) r
   unfolding logUnits
   log-is f places k r q t =
       subst (λ (x : Fixed). Logged x r)
-      (ap₂ (λ (x : ℤ) (m : ℕ). logAt x (index m) (below f (gap (index m) m))) (q ∙ ap (λ (x : ℕ). minus (places + x) 1075) e) shifted-is) t
+      (ap₂ (λ (x : ℤ) (m : ℕ). fixedLog x (index m) (lnBelow f (gap (index m) m))) (q ∙ ap (λ (x : ℕ). minus (places + x) 1075) e) shifted-is) t

@@ -19,10 +19,9 @@ use Rattle.soft.specs.Units.{splitDef, unitsDef}
 use Rattle.soft.specs.declared.units.Units.{Units}
 use Rattle.soft.proofs.units.Most.{sizes-in, at-most}
 use Rattle.soft.proofs.units.Value.{measured, digits-lt, places-lt, negative-is, digits-pos}
-use Rattle.kernels.specs.Core.{Fixed, index, gap, below, logAt, moved, logarithm}
-use Rattle.kernels.specs.Steps.{logUnits, logOf}
+use Rattle.kernels.specs.Core.{Fixed, index, gap, lnBelow, fixedLog, moved, logarithm}
+use Rattle.kernels.specs.inner.Ln.{logUnits, logOf, Logged}
 use Rattle.soft.proofs.Rounding.Exponent.{sub-minus}
-use Rattle.kernels.specs.LnSteps.{Logged}
 use Rattle.kernels.specs.declared.logarithm.Log.{Log}
 use Rattle.kernels.proofs.logarithm.Signed.{Near, near}
 
@@ -91,8 +90,8 @@ minus-pos n v e = minus-same n 1075 v 0 (omega arith) ∙ from-zero v
     from-zero v = ap (λ (b : Bool). cond b (pos (v - 0)) (negsuc (0 - suc v))) (leb·zero v) ∙ ap pos (sub-zero v)
 
 -- ---- the two logarithms
-logs : (f : Format) (k l : ℤ) (a d : ℕ) → k ≡ l → moved a ≡ moved d → logAt k (index (moved a)) (below f (gap (index (moved a)) (moved a))) ≡ logAt l (index (moved d)) (below f (gap (index (moved d)) (moved d)))
-logs f k l a d p q = ap₂ (λ (z : ℤ) (m : ℕ). logAt z (index m) (below f (gap (index m) m))) p q
+logs : (f : Format) (k l : ℤ) (a d : ℕ) → k ≡ l → moved a ≡ moved d → fixedLog k (index (moved a)) (lnBelow f (gap (index (moved a)) (moved a))) ≡ fixedLog l (index (moved d)) (lnBelow f (gap (index (moved d)) (moved d)))
+logs f k l a d p q = ap₂ (λ (z : ℤ) (m : ℕ). fixedLog z (index m) (lnBelow f (gap (index m) m))) p q
 
 pub same-log : (f : Format) (a d p : ℕ) (e : ℤ) → 0 < a → a < 2 ^ 63 → 0 < d → d < 2 ^ 63 → a * up e * 2 ^ 1074 ≡ d * 2 ^ p * down e → logarithm f a e ≡ logUnits f d p
 unfolding logarithm logUnits
@@ -118,7 +117,7 @@ pub units-log : (f : Format) (m : ℕ) (e : ℤ) → T (fits binary64 (fin false
     → logarithm f (suc m) e ≡ logUnits f (unitsDef binary64 (fin false (suc m) e) .digits) (unitsDef binary64 (fin false (suc m) e) .places)
 units-log f m e h =
     same-log f (suc m) (unitsDef binary64 (fin false (suc m) e) .digits) (unitsDef binary64 (fin false (suc m) e) .places) e (zero-lt-suc m) (lt-of-lt-of-le (sizes-in false m e h .0) (lit≤ tt)) (digits-pos binary64 false m e h)
-    (lt-of-lt-of-le (digits-lt binary64 (fin false (suc m) e) h tt) (lit≤ tt)) (measured binary64 (fin false (suc m) e) h tt .1)
+    (lt-of-lt-of-le (digits-lt binary64 (fin false (suc m) e)) (lit≤ tt)) (measured binary64 (fin false (suc m) e) h tt .1)
 
 -- ---- a float's logarithm from what `measure` gives
 module _ (x : Float) (u : Units) (h : T (fits binary64 x)) (p : T (positive x)) (e : u ≡ unitsDef binary64 x) where
@@ -134,7 +133,7 @@ module _ (x : Float) (u : Units) (h : T (fits binary64 x)) (p : T (positive x)) 
       go (fin false (suc m) e) h p = sym (units-log f m e h)
 
   pub measure-ready : (0 < u .digits) × (u .digits < 2 ^ 53) × (u .places < 2 ^ 11)
-  measure-ready = subst (λ (v : Units). (0 < v .digits) × (v .digits < 2 ^ 53) × (v .places < 2 ^ 11)) (sym e) (some x h p, digits-lt binary64 x h (positive-finite x p), lt-of-lt-of-le (places-lt binary64 x h (positive-finite x p)) (lit≤ tt))
+  measure-ready = subst (λ (v : Units). (0 < v .digits) × (v .digits < 2 ^ 53) × (v .places < 2 ^ 11)) (sym e) (some x h p, digits-lt binary64 x, lt-of-lt-of-le (places-lt binary64 x h (positive-finite x p)) (lit≤ tt))
     where
       some : (x : Float) → T (fits binary64 x) → T (positive x) → 0 < unitsDef binary64 x .digits
       some nan h p = absurd p
@@ -211,17 +210,17 @@ module _ (x : Float) (b : ℕ) (h : T (fits binary64 x)) (p : T (positive x)) (e
       few : (y : ℕ) → y < 2 ^ 11 → y - 1 + 53 ≤ 2100
       few y h = omega arith
 
-  normal-log : (f : Format) → (b / 2 ^ 52 ≡ 0 → ⊥) → logAt (minus (b / 2 ^ 52) 1023) (index (led b)) (below f (gap (index (led b)) (led b))) ≡ logOf f x
+  normal-log : (f : Format) → (b / 2 ^ 52 ≡ 0 → ⊥) → fixedLog (minus (b / 2 ^ 52) 1023) (index (led b)) (lnBelow f (gap (index (led b)) (led b))) ≡ logOf f x
   unfolding logUnits
   normal-log f n =
       let q = units-is n in
-      ap₂ (λ (z : ℤ) (m : ℕ). logAt z (index m) (below f (gap (index m) m)))
+      ap₂ (λ (z : ℤ) (m : ℕ). fixedLog z (index m) (lnBelow f (gap (index m) m)))
       (exponent-same (b / 2 ^ 52) n ∙ ap (λ (z : ℕ). minus (b / 2 ^ 52 - 1 + z) 1075) (sym (size-is (b % 2 ^ 52) (mod-lt b (lit< tt))))) (sym moved-is)
       ∙ ap₂ (logUnits f) (sym (q .0)) (sym (q .1))
       ∙ log-of x (unitsDef binary64 x) h p refl f
 
-  pub logged : (f : Format) → (b / 2 ^ 52 ≡ 0 → ⊥) → (k : ℤ) → k ≡ minus (b / 2 ^ 52) 1023 → (r : Log) → Logged (logAt k (index (led b)) (below f (gap (index (led b)) (led b)))) r → Logged (logOf f x) r
-  logged f n k q r t = subst (λ (l : Fixed). Logged l r) (ap (λ (z : ℤ). logAt z (index (led b)) (below f (gap (index (led b)) (led b)))) q ∙ normal-log f n) t
+  pub logged : (f : Format) → (b / 2 ^ 52 ≡ 0 → ⊥) → (k : ℤ) → k ≡ minus (b / 2 ^ 52) 1023 → (r : Log) → Logged (fixedLog k (index (led b)) (lnBelow f (gap (index (led b)) (led b)))) r → Logged (logOf f x) r
+  logged f n k q r t = subst (λ (l : Fixed). Logged l r) (ap (λ (z : ℤ). fixedLog z (index (led b)) (lnBelow f (gap (index (led b)) (led b)))) q ∙ normal-log f n) t
 
 -- ---- 0 < x, as the code tests it, and x up to the largest double
 nothing : (n : ℕ) → 0 * 1 * n ≡ 0

@@ -17,9 +17,8 @@ use Rattle.soft.proofs.Rounding.Pattern.{pow-le-back}
 use Rattle.soft.specs.Units.{unitsDef}
 use Rattle.soft.specs.declared.units.Units.{Units}
 use Rattle.soft.proofs.units.Value.{measured, digits-lt, leading, negative-is, holds}
-use Rattle.kernels.specs.Kernels.{fromPower, cut, powered, powAt, powDef}
-use Rattle.kernels.specs.Steps.{logOf}
-use Rattle.kernels.specs.LnSteps.{Logged}
+use Rattle.kernels.specs.Kernels.{fromPower, wholeOf, powered, powAt, powDef}
+use Rattle.kernels.specs.inner.Ln.{logOf, Logged}
 use Rattle.kernels.specs.declared.logarithm.Log.{Log}
 use Rattle.kernels.proofs.Definitions.Cases.{powered-finite, at-most-16, in-domain}
 
@@ -70,14 +69,14 @@ places-few nan h p = absurd (powered-finite nan p)
 places-few (inf s) h p = absurd (powered-finite (inf s) p)
 places-few (fin t n d) h p =
     let u = unitsDef binary64 (fin t n d) in
-    few-places (u .digits) (u .places) (leading binary64 (fin t n d) h tt)
+    few-places (u .digits) (u .places) (leading binary64 (fin t n d))
     (size-most (n * up d) (2 ^ 1074) (u .digits * 2 ^ u .places) (down d) (down-pos d) (at-most-16 t n d p) (measured binary64 (fin t n d) h tt .1))
 
 pub exponent-ready : (y : Float) (u : Units) → T (fits binary64 y) → T (powered y) → u ≡ unitsDef binary64 y → (u .digits < 2 ^ 53) × (u .places ≤ 1042)
-exponent-ready y u h p e = subst (λ (v : Units). (v .digits < 2 ^ 53) × (v .places ≤ 1042)) (sym e) (digits-lt binary64 y h (powered-finite y p), places-few y h p)
+exponent-ready y u h p e = subst (λ (v : Units). (v .digits < 2 ^ 53) × (v .places ≤ 1042)) (sym e) (digits-lt binary64 y, places-few y h p)
 
 -- ---- the product, from y's digits
-cut-units : (t : Bool) (n : ℕ) (d : ℤ) (w : ℕ) → T (fits binary64 (fin t n d)) → unitsDef binary64 (fin t n d) .digits * 2 ^ unitsDef binary64 (fin t n d) .places * w / 2 ^ 1074 ≡ cut n d w
+cut-units : (t : Bool) (n : ℕ) (d : ℤ) (w : ℕ) → T (fits binary64 (fin t n d)) → unitsDef binary64 (fin t n d) .digits * 2 ^ unitsDef binary64 (fin t n d) .places * w / 2 ^ 1074 ≡ wholeOf n d w
 cut-units t n d w h =
     let v = unitsDef binary64 (fin t n d) .digits * 2 ^ unitsDef binary64 (fin t n d) .places in
     div-same (v * w) (2 ^ 1074) (n * up d * w) (down d) (pow-pos 1074) (down-pos d) (swap v w (down d) (n * up d) (2 ^ 1074) (measured binary64 (fin t n d) h tt .1))

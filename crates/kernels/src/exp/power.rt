@@ -8,8 +8,7 @@ ghost use lib.Ieee.{binary32, binary64, round};
 ghost use Rattle.table.specs.Exact.{N};
 ghost use Rattle.kernels.specs.Core as Core;
 ghost use Rattle.kernels.specs.Kernels.{finish, fromPower};
-ghost use Rattle.kernels.specs.Steps.{Significand};
-ghost use Rattle.kernels.specs.ExpSteps.{Holds, Divided};
+ghost use Rattle.kernels.specs.inner.Exp.{Significand, Holds, Divided};
 use table::entry_at;
 
 // high * 2^32 + low.

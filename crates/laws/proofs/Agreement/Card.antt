@@ -11,27 +11,25 @@ use lib.Ieee.{Float}
 use Rattle.domain.specs.Doubles.{_+ᵈ_, zero64}
 use Rattle.domain.specs.Weights.{_!_}
 use Rattle.checks.specs.Reads.{later, isLast, nonZero, prefixDay, cardDay, cardRating, cardLabel, cardRow}
-use Rattle.checks.specs.Batch.{Cards, lengthAt}
-use Rattle.checks.specs.Tables.{cell}
-use Rattle.checks.specs.Faults.{faultAt, cardRows, cardColumn}
+use Rattle.checks.specs.Batch.{History, Cards, lengthAt, history, labelAt, weightAt}
+use Rattle.checks.specs.Faults.{faultAt, rowsFault, cardRows, cardColumn}
 use Rattle.forward.specs.Params.{paramsDef}
 use Rattle.forward.specs.declared.parameters.RuntimeParams.{RuntimeParams}
-use Rattle.forward.specs.declared.stability.State.{State}
-use Rattle.forward.specs.Reads.{among, stepReads, Agree}
-use Rattle.forward.specs.declared.step.StepRecord.{StepRecord}
+use Rattle.forward.specs.declared.state.State.{State}
+use Rattle.forward.specs.WeightsRead.{stepReads, Agree}
+use Rattle.forward.specs.declared.state.StepRecord.{StepRecord}
 use Rattle.forward.proofs.Agreement.{by-cases}
 use Rattle.columns.specs.declared.scores.Score.{Score}
-use Rattle.backward.specs.Moves.{slotsOf}
-use Rattle.columns.specs.Back.{startGrad, backDef}
-use Rattle.columns.specs.Ends.{lastLoss, lastGrad, lastSlots}
-use Rattle.columns.specs.Path.{rowScore, stateAt, recordAt, scoreAt, lossAt}
+use Rattle.columns.specs.BackwardPass.{startGrad, backDef}
+use Rattle.columns.specs.LastReview.{lastLoss, lastGrad, lastSlots}
+use Rattle.columns.specs.ForwardPass.{rowScore, stateAt, recordAt, scoreAt, lossAt}
 use Rattle.analytic_v6.specs.Cards.{cardLoss, cardSlots}
 use Rattle.checks.proofs.reads.Unread.{CardRow, card-row-same}
 use Rattle.laws.proofs.Agreement.Faults.{faults-same}
 use Rattle.laws.proofs.Agreement.Path.{Row, states-same, record-same}
 use Rattle.laws.proofs.Agreement.Ends.{row-score-same, last-loss-same, last-grad-same, last-slots-same, last-keeps}
 use Rattle.laws.proofs.Agreement.Reverse.{back-keeps}
-use Rattle.laws.proofs.Agreement.Walk.{walk-same, scored-still}
+use Rattle.laws.proofs.Agreement.Walk.{walk-same, Still, scored-still}
 
 -- rows 0..n-2 are not the last, and row n-1 is
 module _ (n row : ℕ) where
@@ -61,35 +59,38 @@ pub last-day-read : (n : ℕ) → (n ≡ 0 → ⊥) → (rating weight : Float) 
 unfolding cardDay cardLabel
 last-day-read n h rating weight e = rw (is-last n h) e
 
-module _ (p : RuntimeParams) (days ratings : List Float) (columns column : ℕ) (labels weights : List Float) (p′ : RuntimeParams) (days′ ratings′ labels′ weights′ : List Float) where
-  losses-same : (n : ℕ) → ((row : ℕ) → row < n → scoreAt p days ratings columns column labels weights row ≡ scoreAt p′ days′ ratings′ columns column labels′ weights′ row) →
-      lossAt p days ratings columns column labels weights n ≡ lossAt p′ days′ ratings′ columns column labels′ weights′ n
+module _ (p p′ : RuntimeParams) (h h′ : History) (label weight label′ weight′ : ℕ → Float) where
+  losses-same : (n : ℕ) → ((row : ℕ) → row < n → scoreAt p h label weight row ≡ scoreAt p′ h′ label′ weight′ row) →
+      lossAt p h label weight n ≡ lossAt p′ h′ label′ weight′ n
   unfolding lossAt
-  losses-same zero h = refl
-  losses-same (suc n) h = rw (losses-same n (λ i l. h i (lt-of-lt-of-le l (le-suc n))), h n (lt-suc-self n))
+  losses-same zero e = refl
+  losses-same (suc n) e = rw (losses-same n (λ i l. e i (lt-of-lt-of-le l (le-suc n))), e n (lt-suc-self n))
 
--- a card's parts, of the table's columns and the card's length: the state before the last row, the last row's part, and the whole
-module _ (p : RuntimeParams) (y : Cards) (column c n : ℕ) where
+-- a card's parts, of the card's length: the state before the last row, the last row's part, and the whole
+module _ (p : RuntimeParams) (y : Cards) (column n : ℕ) where
+  abbrev hist : History
+  hist = history (y .table) column
+
   abbrev stateOf : State
-  stateOf = stateAt p (y .table .days) (y .table .ratings) c column (n - 1)
+  stateOf = stateAt p hist (n - 1)
 
   abbrev scoreOf : (row : ℕ) → Score
-  scoreOf row = scoreAt p (y .table .days) (y .table .ratings) c column (y .labels) (y .weights) row
+  scoreOf row = scoreAt p hist (labelAt y column) (weightAt y column) row
 
   abbrev beforeOf : Float
-  beforeOf = lossAt p (y .table .days) (y .table .ratings) c column (y .labels) (y .weights) (n - 1)
+  beforeOf = lossAt p hist (labelAt y column) (weightAt y column) (n - 1)
 
   abbrev lossOf : Float
-  lossOf = lastLoss p (n - 1) (stateOf .s) (y .table .days ! cell c (n - 1) column) (y .labels ! cell c (n - 1) column) (y .weights ! cell c (n - 1) column) beforeOf
+  lossOf = lastLoss p (n - 1) (stateOf .s) (hist .day (n - 1)) (labelAt y column (n - 1)) (weightAt y column (n - 1)) beforeOf
 
   abbrev gradOf : Float
-  gradOf = lastGrad p (n - 1) (stateOf .s) (y .table .days ! cell c (n - 1) column) (y .labels ! cell c (n - 1) column) (y .weights ! cell c (n - 1) column)
+  gradOf = lastGrad p (n - 1) (stateOf .s) (hist .day (n - 1)) (labelAt y column (n - 1)) (weightAt y column (n - 1))
 
   abbrev endOf : (gw : List Float) → List Float
-  endOf gw = lastSlots p (n - 1) (stateOf .s) (y .table .days ! cell c (n - 1) column) (y .labels ! cell c (n - 1) column) (y .weights ! cell c (n - 1) column) gw
+  endOf gw = lastSlots p (n - 1) (stateOf .s) (hist .day (n - 1)) (labelAt y column (n - 1)) (weightAt y column (n - 1)) gw
 
   abbrev walkOf : (gw : List Float) → List Float
-  walkOf gw = backDef p (recordAt p (y .table .days) (y .table .ratings) c column) (λ row. scoreOf row .«g_r») (n - 1) (startGrad gradOf) (endOf gw)
+  walkOf gw = backDef p (recordAt p hist) (λ row. scoreOf row .«g_r») (n - 1) (startGrad gradOf) (endOf gw)
 
   abbrev lossWith : Float
   lossWith = cond (eqb n 0) zero64 lossOf
@@ -101,100 +102,95 @@ module _ (x y : Cards) (column : ℕ) where
   abbrev n : ℕ
   n = lengthAt (x .table) column
 
-  abbrev c : ℕ
-  c = x .table .columns
+  abbrev hx : History
+  hx = history (x .table) column
 
-  abbrev k : (row : ℕ) → ℕ
-  k row = cell c row column
+  abbrev hy : History
+  hy = history (y .table) column
 
-  abbrev RowAt : (row : ℕ) → Type 0
-  RowAt row = CardRow n row (x .table .days ! k row) (y .table .days ! k row) (x .table .ratings ! k row) (y .table .ratings ! k row) (x .weights ! k row) (y .weights ! k row) (x .labels ! k row) (y .labels ! k row)
+  abbrev pub RowAt : (row : ℕ) → Type 0
+  RowAt row =
+      CardRow n row (hx .day row) (hy .day row) (hx .rating row) (hy .rating row)
+      (weightAt x column row) (weightAt y column row) (labelAt x column row) (labelAt y column row)
 
   -- the cells of the column that count as read are the same
   pub record CardCells : Type 0 where
-    pub columns : x .table .columns ≡ y .table .columns
     pub lengths : lengthAt (x .table) column ≡ lengthAt (y .table) column
     pub rows : (row : ℕ) → row < n → RowAt row
 
   module _ (same : CardCells) where
-    rows-same :
-        cardRows (x .table .days) (x .table .ratings) c (x .labels) (x .weights) column n ≡
-        cardRows (y .table .days) (y .table .ratings) c (y .labels) (y .weights) column n
-    unfolding cardRows
+    rows-same : cardRows hx (labelAt x column) (weightAt x column) column n ≡ cardRows hy (labelAt y column) (weightAt y column) column n
+    unfolding rowsFault
     rows-same = faults-same _ _ n (λ row l. ap (λ (m : ℕ). faultAt m column row) (card-row-same n row _ _ _ _ _ _ _ _ (same .rows row l)))
 
     pub card-fault-same : cardColumn x column ≡ cardColumn y column
     unfolding cardColumn
-    card-fault-same = rw (← same .lengths, ← same .columns) rows-same
+    card-fault-same = rw (← same .lengths) rows-same
 
     module _ (w v : List Float)
-        (weights : (row : ℕ) → row < n - 1 → Agree (stepReads (stateAt (paramsDef w) (x .table .days) (x .table .ratings) c column row) (x .table .days ! k row) (x .table .ratings ! k row) row) w v)
+        (weights : (row : ℕ) → row < n - 1 → Agree (stepReads (stateAt (paramsDef w) hx row) (hx .day row) (hx .rating row) row) w v)
         (twenty : w ! 20 ≡ v ! 20) where
-      rows : (row : ℕ) → row < n - 1 → Row w v (x .table .days) (x .table .ratings) (y .table .days) (y .table .ratings) c column row
+      rows : (row : ℕ) → row < n - 1 → Row w v hx hy row
       rows row l =
           let h = same .rows row (inside n row l) in
           record { rating = h .ratings (rating-read n row l); day = λ e. h .days (day-read n row l _ _ e); weights = weights row l }
 
-      pub card-record-same : (row : ℕ) → row < n - 1 →
-          recordAt (paramsDef w) (x .table .days) (x .table .ratings) c column row ≡ recordAt (paramsDef v) (y .table .days) (y .table .ratings) (y .table .columns) column row
-      card-record-same row l =
-          record-same w v _ _ _ _ _ column (n - 1) rows row l ∙ ap (λ (m : ℕ). recordAt (paramsDef v) (y .table .days) (y .table .ratings) m column row) (same .columns)
+      pub card-record-same : (row : ℕ) → row < n - 1 → recordAt (paramsDef w) hx row ≡ recordAt (paramsDef v) hy row
+      card-record-same = record-same w v hx hy (n - 1) rows
 
-      state-same : stateOf (paramsDef w) x column c n ≡ stateOf (paramsDef v) y column c n
-      state-same = states-same w v _ _ _ _ _ column (n - 1) rows
+      state-same : stateOf (paramsDef w) x column n ≡ stateOf (paramsDef v) y column n
+      state-same = states-same w v hx hy (n - 1) rows
 
-      score-same : (row : ℕ) → row < n - 1 → scoreOf (paramsDef w) x column c n row ≡ scoreOf (paramsDef v) y column c n row
+      score-same : (row : ℕ) → row < n - 1 → scoreOf (paramsDef w) x column n row ≡ scoreOf (paramsDef v) y column n row
       unfolding scoreAt
       score-same row l =
           let h = same .rows row (inside n row l) in
           row-score-same row _ _ _ _ _ (h .weights) (h .labels) ∙
-          ap (λ (s : StepRecord). rowScore row (s .retrievability) (y .labels ! k row) (y .weights ! k row)) (record-same w v _ _ _ _ _ column (n - 1) rows row l)
+          ap (λ (s : StepRecord). rowScore row (s .retrievability) (labelAt y column row) (weightAt y column row)) (card-record-same row l)
 
-      before-same : beforeOf (paramsDef w) x column c n ≡ beforeOf (paramsDef v) y column c n
-      before-same = losses-same (paramsDef w) _ _ _ column _ _ (paramsDef v) _ _ _ _ (n - 1) score-same
+      before-same : beforeOf (paramsDef w) x column n ≡ beforeOf (paramsDef v) y column n
+      before-same = losses-same (paramsDef w) (paramsDef v) hx hy _ _ _ _ (n - 1) score-same
 
       module _ (some : n ≡ 0 → ⊥) where
         last : RowAt (n - 1)
         last = same .rows (n - 1) (last-inside n some)
 
-        last-day : cardLabel (n - 1) (x .weights ! k (n - 1)) ≡ true → x .table .days ! k (n - 1) ≡ y .table .days ! k (n - 1)
+        last-day : cardLabel (n - 1) (weightAt x column (n - 1)) ≡ true → hx .day (n - 1) ≡ hy .day (n - 1)
         last-day e = last .days (last-day-read n some _ _ e)
 
-        loss-of : lossOf (paramsDef w) x column c n ≡ lossOf (paramsDef v) y column c n
+        loss-of : lossOf (paramsDef w) x column n ≡ lossOf (paramsDef v) y column n
         loss-of = last-loss-same w v twenty (n - 1) _ _ _ _ _ _ _ (last .weights) last-day (last .labels) _ ∙ (rw (state-same, before-same))
 
-        grad-of : gradOf (paramsDef w) x column c n ≡ gradOf (paramsDef v) y column c n
+        grad-of : gradOf (paramsDef w) x column n ≡ gradOf (paramsDef v) y column n
         grad-of = last-grad-same w v twenty (n - 1) _ _ _ _ _ _ _ (last .weights) last-day (last .labels) ∙ (rw state-same)
 
-        end-of : (gw : List Float) → endOf (paramsDef w) x column c n gw ≡ endOf (paramsDef v) y column c n gw
+        end-of : (gw : List Float) → endOf (paramsDef w) x column n gw ≡ endOf (paramsDef v) y column n gw
         end-of gw = last-slots-same w v twenty (n - 1) _ _ _ _ _ _ _ (last .weights) last-day (last .labels) gw ∙ (rw state-same)
 
-        walk-of : (gw : List Float) → walkOf (paramsDef w) x column c n gw ≡ walkOf (paramsDef v) y column c n gw
+        walk-of : (gw : List Float) → walkOf (paramsDef w) x column n gw ≡ walkOf (paramsDef v) y column n gw
         walk-of gw =
-            walk-same w v (x .table .days) (x .table .ratings) (y .table .days) (y .table .ratings) c column (n - 1) rows twenty _ _ (λ row l. ap (λ (s : Score). s .«g_r») (score-same row l)) _ _ ∙
+            walk-same w v hx hy (n - 1) rows twenty _ _ (λ row l. ap (λ (s : Score). s .«g_r») (score-same row l)) _ _ ∙
             (rw (grad-of, end-of gw))
 
       pub card-loss-same : cardLoss (paramsDef w) x column ≡ cardLoss (paramsDef v) y column
       unfolding cardLoss
       card-loss-same =
-          by-cases (eqb n 0) _ _ _ _ (λ e. refl) (λ e. loss-of (eqb-false n 0 e)) ∙
-          ap (λ (m : ℕ). lossWith (paramsDef v) y column m n) (same .columns) ∙ ap (lossWith (paramsDef v) y column (y .table .columns)) (same .lengths)
+          by-cases (eqb n 0) _ _ _ _ (λ e. refl) (λ e. loss-of (eqb-false n 0 e)) ∙ ap (lossWith (paramsDef v) y column) (same .lengths)
 
       pub card-slots-same : (gw : List Float) → cardSlots (paramsDef w) x column gw ≡ cardSlots (paramsDef v) y column gw
       unfolding cardSlots
       card-slots-same gw =
           by-cases (eqb n 0) _ _ _ _ (λ e. refl) (λ e. walk-of (eqb-false n 0 e) gw) ∙
-          ap (λ (m : ℕ). slotsWith (paramsDef v) y column m n gw) (same .columns) ∙ ap (λ (m : ℕ). slotsWith (paramsDef v) y column (y .table .columns) m gw) (same .lengths)
+          ap (λ (m : ℕ). slotsWith (paramsDef v) y column m gw) (same .lengths)
 
   -- a slot that neither the steps nor the last row may move
   pub card-keeps :
-      (p : RuntimeParams) (slot : ℕ) →
-      ((row : ℕ) → row < n - 1 → among slot (slotsOf (recordAt p (x .table .days) (x .table .ratings) c column row .branch) (recordAt p (x .table .days) (x .table .ratings) c column row .rating)) ≡ false) →
-      eqb slot 20 && cardLabel (n - 1) (x .weights ! k (n - 1)) ≡ false → (gw : List Float) → cardSlots p x column gw ! slot ≡ gw ! slot
+      (p : RuntimeParams) (slot : ℕ) → ((row : ℕ) → row < n - 1 → Still p hx slot row) →
+      eqb slot 20 && cardLabel (n - 1) (weightAt x column (n - 1)) ≡ false → (gw : List Float) → cardSlots p x column gw ! slot ≡ gw ! slot
   unfolding cardSlots
   card-keeps p slot steps end gw =
       kept (eqb n 0) _
-      (back-keeps _ _ slot p (n - 1) (λ row l. scored-still p _ _ _ column slot row (x .labels) (x .weights) (steps row l)) _ _ ∙ last-keeps slot p (n - 1) _ _ _ _ gw end)
+      (back-keeps _ _ slot p (n - 1) (λ row l. scored-still p _ slot row _ _ (steps row l)) _ _ ∙ last-keeps slot p (n - 1) _ _ _ _ gw end)
     where
       kept : (b : Bool) (xs : List Float) → xs ! slot ≡ gw ! slot → cond b gw xs ! slot ≡ gw ! slot
       kept true xs h = refl

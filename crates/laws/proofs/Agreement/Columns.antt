@@ -7,25 +7,22 @@ use lib.Ieee.{Float}
 use Rattle.domain.specs.Weights.{_!_}
 use Rattle.domain.specs.Doubles.{_+ᵈ_}
 use Rattle.checks.specs.Columns.{total, through}
-use Rattle.checks.specs.Tables.{cutAt}
-use Rattle.checks.specs.Sizes.{most, longestDef}
 
 pub total-same : (f g : ℕ → Float) (n : ℕ) → ((column : ℕ) → column < n → f column ≡ g column) → total f n ≡ total g n
 unfolding total
 total-same f g zero h = refl
 total-same f g (suc n) h = rw (total-same f g n (λ i l. h i (lt-of-lt-of-le l (le-suc n))), h n (lt-suc-self n))
 
-pub through-same : (f g : ℕ → List Float → List Float) (n : ℕ) → ((column : ℕ) → column < n → (xs : List Float) → f column xs ≡ g column xs) → (xs : List Float) → through f n xs ≡ through g n xs
+pub through-same :
+    (f g : ℕ → List Float → List Float) (n : ℕ) → ((column : ℕ) → column < n → (xs : List Float) → f column xs ≡ g column xs) →
+    (xs : List Float) → through f n xs ≡ through g n xs
 unfolding through
 through-same f g zero h xs = refl
 through-same f g (suc n) h xs = h n (lt-suc-self n) _ ∙ ap (g n) (through-same f g n (λ i l. h i (lt-of-lt-of-le l (le-suc n))) xs)
 
-pub through-keeps : (k : ℕ) (f : ℕ → List Float → List Float) (n : ℕ) → ((column : ℕ) → column < n → (xs : List Float) → f column xs ! k ≡ xs ! k) → (xs : List Float) → through f n xs ! k ≡ xs ! k
+pub through-keeps :
+    (k : ℕ) (f : ℕ → List Float → List Float) (n : ℕ) → ((column : ℕ) → column < n → (xs : List Float) → f column xs ! k ≡ xs ! k) →
+    (xs : List Float) → through f n xs ! k ≡ xs ! k
 unfolding through
 through-keeps k f zero h xs = refl
 through-keeps k f (suc n) h xs = h n (lt-suc-self n) _ ∙ through-keeps k f n (λ i l. h i (lt-of-lt-of-le l (le-suc n))) xs
-
-pub longest-same : (a b : List ℕ) (rows rows′ n : ℕ) → ((column : ℕ) → column < n → cutAt a rows column ≡ cutAt b rows′ column) → longestDef a rows n ≡ longestDef b rows′ n
-unfolding longestDef
-longest-same a b rows rows′ zero h = refl
-longest-same a b rows rows′ (suc n) h = rw (longest-same a b rows rows′ n (λ i l. h i (lt-of-lt-of-le l (le-suc n))), h n (lt-suc-self n))

@@ -12,8 +12,8 @@ use Rattle.checks.specs.Reads.{later, nonZero, cardLabel}
 use Rattle.columns.specs.Scores.{scoreDef}
 use Rattle.columns.specs.declared.scores.Score.{Score}
 use Rattle.forward.specs.Params.{paramsDef}
-use Rattle.columns.specs.Ends.{targetLoss, targetGrad, targetSlots, lastLoss, lastGrad, lastSlots}
-use Rattle.columns.specs.Path.{rowScore}
+use Rattle.columns.specs.LastReview.{targetLoss, targetGrad, targetSlots, lastLoss, lastGrad, lastSlots}
+use Rattle.columns.specs.ForwardPass.{rowScore}
 use Rattle.forward.proofs.Agreement.{by-cases}
 use Rattle.forward.specs.declared.parameters.RuntimeParams.{RuntimeParams}
 use Rattle.backward.proofs.Keeps.{curve-keeps}

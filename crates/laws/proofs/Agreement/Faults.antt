@@ -3,7 +3,7 @@ use Prim.Native.Nat.{ℕ, zero, suc, _<_}
 use mathlib.Core.Path.{_≡_, refl}
 use native.Mathlib.Nat.{le-suc, lt-of-lt-of-le, lt-suc-self}
 use Rattle.checks.specs.Faults.{firstFault}
-use Rattle.checks.specs.declared.faults.place.Fault.{Fault}
+use Rattle.checks.specs.declared.fault.Fault.{Fault}
 
 pub faults-same : (f g : ℕ → Fault) (n : ℕ) → ((i : ℕ) → i < n → f i ≡ g i) → firstFault f n ≡ firstFault g n
 unfolding firstFault

@@ -7,18 +7,17 @@ use native.Mathlib.Nat.{le-suc, le-of-lt, lt-of-lt-of-le, lt-suc-self, suc-ne-ze
 use lib.Ieee.{Float, eq, ofBits}
 use borrow.Author.Tests.{ne-eqb}
 use Rattle.domain.specs.Limits.{zero32}
-use Rattle.domain.specs.Weights.{_!_}
 use Rattle.checks.specs.Reads.{later, nonZero, prefixDay}
 use Rattle.forward.specs.Params.{paramsDef}
 use Rattle.forward.specs.declared.parameters.RuntimeParams.{RuntimeParams}
-use Rattle.checks.specs.Tables.{cell}
-use Rattle.forward.specs.declared.stability.State.{State}
-use Rattle.forward.specs.Reads.{stepReads, Agree}
+use Rattle.checks.specs.Batch.{History}
+use Rattle.forward.specs.declared.state.State.{State}
+use Rattle.forward.specs.WeightsRead.{stepReads, Agree}
 use Rattle.forward.specs.Step.{noState, isFirst, stepDef}
-use Rattle.forward.specs.declared.step.Stepped.{Stepped}
+use Rattle.forward.specs.declared.state.Stepped.{Stepped}
 use Rattle.forward.proofs.Agreement.{same-step}
 use Rattle.forward.proofs.Unread.{padding-day, first-day}
-use Rattle.columns.specs.Path.{stepAt, stateAt, recordAt}
+use Rattle.columns.specs.ForwardPass.{stepAt, stateAt, recordAt}
 
 -- a review's day is read in every row but the first
 read-later : (row : ℕ) (rating : Float) → eq rating zero32 ≡ false → prefixDay (suc row) rating ≡ true
@@ -37,42 +36,35 @@ module _ (p : RuntimeParams) (day other rating : Float) where
       by true e = padding-day p q day other rating (suc row) (sym e)
       by false e = ap (λ (d : Float). stepDef p q d rating (suc row)) (h (read-later row rating (sym e)))
 
-module _ (w v days ratings days′ ratings′ : List Float) (columns column : ℕ) where
+module _ (w v : List Float) (h h′ : History) where
   abbrev pub stateOf : (row : ℕ) → State
-  stateOf row = stateAt (paramsDef w) days ratings columns column row
+  stateOf row = stateAt (paramsDef w) h row
 
   -- the two columns agree on what the row's step reads: its rating, its day where that is read, and the weights
   pub record Row (row : ℕ) : Type 0 where
-    pub rating : ratings ! cell columns row column ≡ ratings′ ! cell columns row column
-    pub day : prefixDay row (ratings ! cell columns row column) ≡ true → days ! cell columns row column ≡ days′ ! cell columns row column
-    pub weights : Agree (stepReads (stateOf row) (days ! cell columns row column) (ratings ! cell columns row column) row) w v
+    pub rating : h .rating row ≡ h′ .rating row
+    pub day : prefixDay row (h .rating row) ≡ true → h .day row ≡ h′ .day row
+    pub weights : Agree (stepReads (stateOf row) (h .day row) (h .rating row) row) w v
 
-  unread : (row : ℕ) → Row row → stepAt (paramsDef v) days ratings columns column (stateOf row) row ≡ stepAt (paramsDef v) days′ ratings columns column (stateOf row) row
-  unfolding stepAt stateAt
-  unread zero h = at-first (paramsDef v) _ _ _
-  unread (suc row) h = after-first (paramsDef v) _ _ _ _ row (h .day)
-
-  weighed : (row : ℕ) → Row row → stepAt (paramsDef w) days ratings columns column (stateOf row) row ≡ stepAt (paramsDef v) days ratings columns column (stateOf row) row
-  unfolding stepAt
-  weighed row h = same-step w v (stateOf row) _ _ row (h .weights)
-
-  rated : (row : ℕ) → Row row → stateOf row ≡ stateAt (paramsDef v) days′ ratings′ columns column row →
-      stepAt (paramsDef v) days′ ratings columns column (stateOf row) row ≡
-      stepAt (paramsDef v) days′ ratings′ columns column (stateAt (paramsDef v) days′ ratings′ columns column row) row
-  unfolding stepAt
-  rated row h e = rw (h .rating, e)
-
-  step-same : (row : ℕ) → Row row → stateOf row ≡ stateAt (paramsDef v) days′ ratings′ columns column row →
-      stepAt (paramsDef w) days ratings columns column (stateOf row) row ≡
-      stepAt (paramsDef v) days′ ratings′ columns column (stateAt (paramsDef v) days′ ratings′ columns column row) row
-  step-same row h e = weighed row h ∙ unread row h ∙ rated row h e
-
-  pub states-same : (n : ℕ) → ((row : ℕ) → row < n → Row row) → stateOf n ≡ stateAt (paramsDef v) days′ ratings′ columns column n
+  unread : (row : ℕ) → Row row →
+      stepDef (paramsDef v) (stateOf row) (h .day row) (h .rating row) row ≡ stepDef (paramsDef v) (stateOf row) (h′ .day row) (h .rating row) row
   unfolding stateAt
-  states-same zero h = refl
-  states-same (suc n) h = ap (λ (s : Stepped). s .state) (step-same n (h n (lt-suc-self n)) (states-same n (λ row l. h row (lt-of-lt-of-le l (le-suc n)))))
+  unread zero r = at-first (paramsDef v) _ _ _
+  unread (suc row) r = after-first (paramsDef v) _ _ _ _ row (r .day)
+
+  step-same : (row : ℕ) → Row row → stateOf row ≡ stateAt (paramsDef v) h′ row →
+      stepAt (paramsDef w) h (stateOf row) row ≡ stepAt (paramsDef v) h′ (stateAt (paramsDef v) h′ row) row
+  unfolding stepAt
+  step-same row r e = same-step w v (stateOf row) _ _ row (r .weights) ∙ unread row r ∙ (rw (r .rating, e))
+
+  pub states-same : (n : ℕ) → ((row : ℕ) → row < n → Row row) → stateOf n ≡ stateAt (paramsDef v) h′ n
+  unfolding stateAt
+  states-same zero r = refl
+  states-same (suc n) r =
+      ap (λ (s : Stepped). s .state) (step-same n (r n (lt-suc-self n)) (states-same n (λ row l. r row (lt-of-lt-of-le l (le-suc n)))))
 
   pub record-same : (n : ℕ) → ((row : ℕ) → row < n → Row row) → (row : ℕ) → row < n →
-      recordAt (paramsDef w) days ratings columns column row ≡ recordAt (paramsDef v) days′ ratings′ columns column row
+      recordAt (paramsDef w) h row ≡ recordAt (paramsDef v) h′ row
   unfolding recordAt
-  record-same n h row l = ap (λ (s : Stepped). s .step) (step-same row (h row l) (states-same row (λ i m. h i (lt-of-lt-of-le m (le-of-lt l)))))
+  record-same n r row l =
+      ap (λ (s : Stepped). s .step) (step-same row (r row l) (states-same row (λ i m. r i (lt-of-lt-of-le m (le-of-lt l)))))

@@ -9,107 +9,98 @@ use Rattle.domain.specs.Doubles.{zero64}
 use Rattle.domain.specs.Limits.{zero32}
 use Rattle.domain.specs.Weights.{_!_}
 use Rattle.checks.specs.Reads.{nonZero, prefixDay, prefixRow, targetDef}
-use Rattle.checks.specs.Batch.{Prefixes, lengthAt}
-use Rattle.checks.specs.Tables.{cell}
-use Rattle.checks.specs.Faults.{faultAt, prefixRows, targetFault, prefixColumn}
+use Rattle.checks.specs.Batch.{History, Prefixes, lengthAt, history}
+use Rattle.checks.specs.Faults.{faultAt, rowsFault, prefixRows, targetFault, prefixColumn}
 use Rattle.forward.specs.Params.{paramsDef}
 use Rattle.forward.specs.declared.parameters.RuntimeParams.{RuntimeParams}
-use Rattle.forward.specs.Reads.{among, stepReads, Agree}
-use Rattle.forward.specs.declared.stability.State.{State}
-use Rattle.backward.specs.Moves.{slotsOf}
-use Rattle.columns.specs.Back.{startGrad}
-use Rattle.columns.specs.Ends.{targetLoss, targetGrad, targetSlots}
-use Rattle.columns.specs.Path.{stateAt, recordAt}
+use Rattle.forward.specs.WeightsRead.{stepReads, Agree}
+use Rattle.forward.specs.declared.state.State.{State}
+use Rattle.columns.specs.BackwardPass.{startGrad}
+use Rattle.columns.specs.LastReview.{targetLoss, targetGrad, targetSlots}
+use Rattle.columns.specs.ForwardPass.{stateAt, recordAt}
 use Rattle.analytic_v6.specs.Prefixes.{targetStability, prefixLoss, prefixSlots}
 use Rattle.checks.proofs.reads.Unread.{prefix-row-same, target-same}
 use Rattle.laws.proofs.Agreement.Faults.{faults-same}
 use Rattle.laws.proofs.Agreement.Path.{Row, states-same, record-same}
 use Rattle.laws.proofs.Agreement.Ends.{loss-same, grad-same, slots-same, target-keeps}
 use Rattle.laws.proofs.Agreement.Reverse.{back-keeps}
-use Rattle.laws.proofs.Agreement.Walk.{walk-same, unscored-still}
+use Rattle.laws.proofs.Agreement.Walk.{walk-same, Still, unscored-still}
 
 module _ (x y : Prefixes) (column : ℕ) where
   abbrev n : ℕ
   n = lengthAt (x .table) column
 
-  abbrev c : ℕ
-  c = x .table .columns
+  abbrev hx : History
+  hx = history (x .table) column
 
-  abbrev k : (row : ℕ) → ℕ
-  k row = cell c row column
+  abbrev hy : History
+  hy = history (y .table) column
 
   -- the cells of the column that count as read are the same
   pub record PrefixCells : Type 0 where
-    pub columns : x .table .columns ≡ y .table .columns
     pub lengths : lengthAt (x .table) column ≡ lengthAt (y .table) column
-    pub ratings : (row : ℕ) → row < n → x .table .ratings ! k row ≡ y .table .ratings ! k row
-    pub days :
-        (row : ℕ) → row < n → prefixDay row (x .table .ratings ! k row) ≡ true →
-        x .table .days ! k row ≡ y .table .days ! k row
+    pub ratings : (row : ℕ) → row < n → hx .rating row ≡ hy .rating row
+    pub days : (row : ℕ) → row < n → prefixDay row (hx .rating row) ≡ true → hx .day row ≡ hy .day row
     pub weights : x .weights ! column ≡ y .weights ! column
     pub labels : nonZero (x .weights ! column) ≡ true → x .labels ! column ≡ y .labels ! column
     pub targets : nonZero (x .weights ! column) ≡ true → x .days ! column ≡ y .days ! column
 
   module _ (same : PrefixCells) where
-    row-same : (row : ℕ) → row < n →
-        prefixRow row (x .table .days ! k row) (x .table .ratings ! k row) ≡
-        prefixRow row (y .table .days ! k row) (y .table .ratings ! k row)
+    row-same : (row : ℕ) → row < n → prefixRow row (hx .day row) (hx .rating row) ≡ prefixRow row (hy .day row) (hy .rating row)
     row-same row l = prefix-row-same row _ _ _ (same .days row l) ∙ ap (prefixRow row _) (same .ratings row l)
 
-    rows-same :
-        prefixRows (x .table .days) (x .table .ratings) c column n ≡
-        prefixRows (y .table .days) (y .table .ratings) c column n
-    unfolding prefixRows
+    rows-same : prefixRows hx column n ≡ prefixRows hy column n
+    unfolding rowsFault
     rows-same = faults-same _ _ n (λ row l. ap (λ (n : ℕ). faultAt n column row) (row-same row l))
 
     end-same : (n : ℕ) → targetFault (x .days) (x .labels) (x .weights) column n ≡ targetFault (y .days) (y .labels) (y .weights) column n
     unfolding targetFault
-    end-same n = ap (λ (m : ℕ). faultAt m column n) (target-same _ _ _ _ _ (same .labels) (same .targets) ∙ ap (λ (u : Float). targetDef u (y .labels ! column) (y .days ! column)) (same .weights))
+    end-same n =
+        ap (λ (m : ℕ). faultAt m column n)
+        (target-same _ _ _ _ _ (same .labels) (same .targets) ∙ ap (λ (u : Float). targetDef u (y .labels ! column) (y .days ! column)) (same .weights))
 
     pub prefix-fault-same : prefixColumn x column ≡ prefixColumn y column
     unfolding prefixColumn
-    prefix-fault-same = rw (← same .lengths, ← same .columns, rows-same, end-same n)
+    prefix-fault-same = rw (← same .lengths, rows-same, end-same n)
 
     module _ (w v : List Float)
-        (weights : (row : ℕ) → row < n → Agree (stepReads (stateAt (paramsDef w) (x .table .days) (x .table .ratings) c column row) (x .table .days ! k row) (x .table .ratings ! k row) row) w v)
+        (weights : (row : ℕ) → row < n → Agree (stepReads (stateAt (paramsDef w) hx row) (hx .day row) (hx .rating row) row) w v)
         (twenty : w ! 20 ≡ v ! 20) where
-      rows : (row : ℕ) → row < n → Row w v (x .table .days) (x .table .ratings) (y .table .days) (y .table .ratings) c column row
+      rows : (row : ℕ) → row < n → Row w v hx hy row
       rows row l = record { rating = same .ratings row l; day = same .days row l; weights = weights row l }
 
-      pub prefix-record-same : (row : ℕ) → row < n →
-          recordAt (paramsDef w) (x .table .days) (x .table .ratings) c column row ≡ recordAt (paramsDef v) (y .table .days) (y .table .ratings) (y .table .columns) column row
-      prefix-record-same row l =
-          record-same w v _ _ _ _ _ column n rows row l ∙ ap (λ (m : ℕ). recordAt (paramsDef v) (y .table .days) (y .table .ratings) m column row) (same .columns)
+      pub prefix-record-same : (row : ℕ) → row < n → recordAt (paramsDef w) hx row ≡ recordAt (paramsDef v) hy row
+      prefix-record-same = record-same w v hx hy n rows
 
       stability : targetStability (paramsDef w) x column ≡ targetStability (paramsDef v) y column
       stability =
-          ap (λ (q : State). q .s) (states-same w v _ _ _ _ _ column n rows) ∙
-          ap (λ (c : ℕ). stateAt (paramsDef v) (y .table .days) (y .table .ratings) c column n .s) (same .columns) ∙
-          ap (λ (n : ℕ). stateAt (paramsDef v) (y .table .days) (y .table .ratings) (y .table .columns) column n .s) (same .lengths)
+          ap (λ (q : State). q .s) (states-same w v hx hy n rows) ∙ ap (λ (n : ℕ). stateAt (paramsDef v) hy n .s) (same .lengths)
 
       pub prefix-loss-same : prefixLoss (paramsDef w) x column ≡ prefixLoss (paramsDef v) y column
       unfolding prefixLoss
       prefix-loss-same = loss-same w v twenty _ _ _ _ _ _ (same .targets) (same .labels) ∙ (rw (stability, same .weights))
 
-      grad : targetGrad (paramsDef w) (targetStability (paramsDef w) x column) (x .days ! column) (x .labels ! column) (x .weights ! column) ≡
+      grad :
+          targetGrad (paramsDef w) (targetStability (paramsDef w) x column) (x .days ! column) (x .labels ! column) (x .weights ! column) ≡
           targetGrad (paramsDef v) (targetStability (paramsDef v) y column) (y .days ! column) (y .labels ! column) (y .weights ! column)
       grad = grad-same w v twenty _ _ _ _ _ _ (same .targets) (same .labels) ∙ (rw (stability, same .weights))
 
-      ended : (gw : List Float) → targetSlots (paramsDef w) (targetStability (paramsDef w) x column) (x .days ! column) (x .labels ! column) (x .weights ! column) gw ≡
+      ended :
+          (gw : List Float) →
+          targetSlots (paramsDef w) (targetStability (paramsDef w) x column) (x .days ! column) (x .labels ! column) (x .weights ! column) gw ≡
           targetSlots (paramsDef v) (targetStability (paramsDef v) y column) (y .days ! column) (y .labels ! column) (y .weights ! column) gw
       ended gw = slots-same w v twenty _ _ _ _ _ _ (same .targets) (same .labels) gw ∙ (rw (stability, same .weights))
 
       pub prefix-slots-same : (gw : List Float) → prefixSlots (paramsDef w) x column gw ≡ prefixSlots (paramsDef v) y column gw
       unfolding prefixSlots
       prefix-slots-same gw =
-          rw (grad, ended gw, ← same .lengths, ← same .columns)
-          (walk-same w v (x .table .days) (x .table .ratings) (y .table .days) (y .table .ratings) c column n rows twenty (λ row. zero64) (λ row. zero64) (λ row l. refl) _ _)
+          rw (grad, ended gw, ← same .lengths)
+          (walk-same w v hx hy n rows twenty (λ row. zero64) (λ row. zero64) (λ row l. refl) _ _)
 
   -- a slot that neither the steps nor the target may move
   pub prefix-keeps :
-      (p : RuntimeParams) (slot : ℕ) →
-      ((row : ℕ) → row < n → among slot (slotsOf (recordAt p (x .table .days) (x .table .ratings) c column row .branch) (recordAt p (x .table .days) (x .table .ratings) c column row .rating)) ≡ false) →
+      (p : RuntimeParams) (slot : ℕ) → ((row : ℕ) → row < n → Still p hx slot row) →
       eqb slot 20 && nonZero (x .weights ! column) ≡ false → (gw : List Float) → prefixSlots p x column gw ! slot ≡ gw ! slot
   unfolding prefixSlots
   prefix-keeps p slot steps end gw =
-      back-keeps _ _ slot p n (λ row l. unscored-still p _ _ _ column slot row (steps row l)) _ _ ∙ target-keeps slot p _ _ _ _ gw end
+      back-keeps _ _ slot p n (λ row l. unscored-still p _ slot row (steps row l)) _ _ ∙ target-keeps slot p _ _ _ _ gw end

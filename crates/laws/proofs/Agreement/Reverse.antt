@@ -8,13 +8,13 @@ use lib.Ieee.{Float}
 use Rattle.domain.specs.Weights.{_!_}
 use Rattle.forward.specs.Params.{paramsDef}
 use Rattle.forward.specs.declared.parameters.RuntimeParams.{RuntimeParams}
-use Rattle.forward.specs.Reads.{Agree}
-use Rattle.forward.specs.declared.step.StepRecord.{StepRecord}
-use Rattle.backward.specs.Moves.{mayMove, reverseReads}
+use Rattle.forward.specs.WeightsRead.{Agree}
+use Rattle.forward.specs.declared.state.StepRecord.{StepRecord}
+use Rattle.backward.specs.Moves.{stepMayMove, reverseReads}
 use Rattle.backward.specs.declared.step.StateGrad.{StateGrad}
 use Rattle.backward.proofs.Keeps.{step-keeps}
 use Rattle.backward.proofs.Same.{same-grad, same-moved}
-use Rattle.columns.specs.Back.{backDef}
+use Rattle.columns.specs.BackwardPass.{backDef}
 
 module _ (records : ℕ → StepRecord) (step-grads : ℕ → Float) where
   pub back-weights :
@@ -28,7 +28,7 @@ module _ (records : ℕ → StepRecord) (step-grads : ℕ → Float) where
       (back-weights w v n (λ i l. h i (lt-of-lt-of-le l (le-suc n))) _ _)
 
   pub back-keeps :
-      (k : ℕ) (p : RuntimeParams) (n : ℕ) → ((i : ℕ) → i < n → mayMove (records i) (step-grads i) k ≡ false) → (g : StateGrad) (gw : List Float) →
+      (k : ℕ) (p : RuntimeParams) (n : ℕ) → ((i : ℕ) → i < n → stepMayMove (records i) (step-grads i) k ≡ false) → (g : StateGrad) (gw : List Float) →
       backDef p records step-grads n g gw ! k ≡ gw ! k
   unfolding backDef
   back-keeps k p zero h g gw = refl

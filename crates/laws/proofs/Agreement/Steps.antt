@@ -8,13 +8,13 @@ use Rattle.domain.specs.Weights.{_!_}
 use Rattle.forward.specs.Curve.{curveForward}
 use Rattle.forward.specs.declared.parameters.RuntimeParams.{RuntimeParams}
 use Rattle.forward.specs.Stability.{shortDef, lapseMove, lapseDef, successDef}
-use Rattle.forward.specs.declared.stability.Branch.{Branch}
-use Rattle.forward.specs.declared.stability.Branch.the-variants.{Padding, First, SameDay, Lapse, Success}
-use Rattle.forward.specs.declared.stability.Move.{Move}
-use Rattle.forward.specs.declared.stability.State.{State}
-use Rattle.forward.specs.Reads.{firstWeights, common, successWeights, reviewReads, stepReads}
+use Rattle.forward.specs.declared.state.Branch.{Branch}
+use Rattle.forward.specs.declared.state.Branch.the-variants.{Padding, First, SameDay, Lapse, Success}
+use Rattle.forward.specs.declared.state.Move.{Move}
+use Rattle.forward.specs.declared.state.State.{State}
+use Rattle.forward.specs.WeightsRead.{firstWeights, common, successWeights, reviewReads, stepReads}
 use Rattle.forward.specs.Step.{clampState, ratingNumber, isFirst, moveDef, paddingDef, firstDef, reviewDef, stepDef}
-use Rattle.forward.specs.declared.step.Stepped.{Stepped}
+use Rattle.forward.specs.declared.state.Stepped.{Stepped}
 
 -- P of a record's branch, rating and retrievability, and of the weights that its step read
 module _ (P : Branch → Float → Float → List ℕ → Type 0) where
@@ -44,13 +44,9 @@ module _ (P : Branch → Float → Float → List ℕ → Type 0) where
     abbrev Lapsed : Float → Move → Type 0
     Lapsed r m = P (m .branch) rating r (11 ∷ 12 ∷ 13 ∷ 14 ∷ 17 ∷ 18 ∷ common)
 
-    by-floor : (b : Bool) (r : Float) (x y : Move) → Lapsed r x → Lapsed r y → Lapsed r (cond b x y)
-    by-floor true r x y h k = h
-    by-floor false r x y h k = k
-
     floored : (raw floor r : Float) → Lapsed r (lapseMove raw floor)
     unfolding lapseMove
-    floored raw floor r = by-floor (lt floor raw) r _ _ (law .lapse raw floor true r) (law .lapse raw floor false r)
+    floored raw floor r = law .lapse raw floor (lt floor raw) r
 
     lapsed : (w11 w12 w13 w14 divisor : Float) (last : State) (r : Float) → Lapsed r (lapseDef w11 w12 w13 w14 divisor last r)
     unfolding lapseDef

@@ -13,10 +13,10 @@ use Rattle.domain.proofs.weights.All.{and-false}
 use Rattle.columns.specs.declared.scores.Score.{Score}
 use Rattle.columns.specs.Scores.{MIN_PROB, isInside, noScore, scoreDef}
 use Rattle.forward.specs.declared.parameters.RuntimeParams.{RuntimeParams}
-use Rattle.forward.specs.declared.stability.Branch.{Branch}
-use Rattle.forward.specs.declared.stability.Branch.the-variants.{Padding, First, SameDay, Lapse, Success}
-use Rattle.forward.specs.declared.stability.State.{State}
-use Rattle.forward.specs.Reads.{among, firstWeights, common, successWeights, stepReads, Agree}
+use Rattle.forward.specs.declared.state.Branch.{Branch}
+use Rattle.forward.specs.declared.state.Branch.the-variants.{Padding, First, SameDay, Lapse, Success}
+use Rattle.forward.specs.declared.state.State.{State}
+use Rattle.forward.specs.WeightsRead.{among, firstWeights, common, successWeights, stepReads, Agree}
 use Rattle.forward.specs.Step.{ratingNumber, stepDef}
 use Rattle.forward.proofs.Agreement.{among-append, after}
 use Rattle.backward.specs.Moves.{slotsOf, reverseReads}

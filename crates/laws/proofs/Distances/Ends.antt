@@ -14,8 +14,8 @@ use lib.Ieee.Order.{round-mono}
 use Rattle.table.specs.Exact.{N, P, taylor, fact}
 use Rattle.table.specs.Entry.{entry}
 use Rattle.kernels.specs.Core.{ups, horner, mantissa, BIAS}
-use Rattle.kernels.specs.Kernels.{finish, fromPower, cut, expDef}
-use Rattle.laws.specs.Kernels.{one, ended, edge, ExpEnds}
+use Rattle.kernels.specs.Kernels.{finish, fromPower, wholeOf, expDef}
+use Rattle.laws.specs.Distances.{floatOne, ended, edge, ExpEnds}
 use Rattle.kernels.proofs.Definitions.Cases.{at-low, at-high, at-mid, past, before}
 use Rattle.laws.proofs.Distances.power.Near.{mantissa-in}
 
@@ -27,7 +27,7 @@ lt-or-ge a b = go (ltb a b) (ltb→lt a b) (nltb→le a b)
     go false l g = inr (g tt)
 
 -- ---- at 0
-pub power-zero : (f : Format) (s : Bool) → fromPower f s 0 ≡ one
+pub power-zero : (f : Format) (s : Bool) → fromPower f s 0 ≡ floatOne
 unfolding fromPower finish mantissa horner ups entry P taylor fact round
 power-zero binary32 true = refl
 power-zero binary32 false = refl
@@ -71,19 +71,19 @@ under-edge E n d p h = le-trans (less (E * 2 ^ 72)) (le-div-iff-mul-le p .1 (le-
 
 pub exp-ends : (f : Format) → ExpEnds f
 unfolding expDef
-exp-ends f s m e k h = power-ends f s (cut m e (2 ^ 72)) (under-edge (edge f) (m * up e) (down e) (down-pos e) h)
+exp-ends f s m e k h = power-ends f s (wholeOf m e (2 ^ 72)) (under-edge (edge f) (m * up e) (down e) (down-pos e) h)
 
 -- ---- below 0
-round-one : (f : Format) → round f false 1 1 ≡ one
+round-one : (f : Format) → round f false 1 1 ≡ floatOne
 unfolding round
 round-one binary32 = refl
 round-one binary64 = refl
 
-zero-below : T (le (fin false 0 (pos 0)) one)
+zero-below : T (le (fin false 0 (pos 0)) floatOne)
 unfolding le
 zero-below = tt
 
-under-one : (f : Format) (K M : ℕ) → M < 2 ^ 63 → K ≤ 2047 → T (le (round f false (M * 2 ^ K) (2 ^ 2110)) one)
+under-one : (f : Format) (K M : ℕ) → M < 2 ^ 63 → K ≤ 2047 → T (le (round f false (M * 2 ^ K) (2 ^ 2110)) floatOne)
 under-one f K M a b =
     subst (λ (x : Float). T (le (round f false (M * 2 ^ K) (2 ^ 2110)) x)) (round-one f)
     (round-mono f (M * 2 ^ K) (2 ^ 2110) 1 1 (pow-pos 2110) (lit< tt)
@@ -92,21 +92,23 @@ under-one f K M a b =
     reach : (K : ℕ) → K ≤ 2047 → 63 + K ≤ 2110
     reach K h = omega arith
 
-finish-under : (f : Format) (K M : ℕ) → M < 2 ^ 63 → K ≤ 2047 → T (le (finish f K M) one)
+finish-under : (f : Format) (K M : ℕ) → M < 2 ^ 63 → K ≤ 2047 → T (le (finish f K M) floatOne)
 finish-under f K M a b = elim (lt-or-ge (K + emax f) 2049) [
-  | inl l ↦ subst (λ (x : Float). T (le x one)) (sym (at-low f K M l)) zero-below
-  | inr g ↦ subst (λ (x : Float). T (le x one)) (sym (at-mid f K M g (wide K (emax f) b))) (under-one f K M a b)
+  | inl l ↦ subst (λ (x : Float). T (le x floatOne)) (sym (at-low f K M l)) zero-below
+  | inr g ↦ subst (λ (x : Float). T (le x floatOne)) (sym (at-mid f K M g (wide K (emax f) b))) (under-one f K M a b)
 ]
   where
     wide : (K E : ℕ) → K ≤ 2047 → K ≤ 2048 + E
     wide K E h = omega arith
 
-pub under-power : (f : Format) (mag : ℕ) → T (le (fromPower f true mag) one)
+pub under-power : (f : Format) (mag : ℕ) → T (le (fromPower f true mag) floatOne)
 unfolding le
-under-power f zero = subst (λ (x : Float). T (le x one)) (sym (power-zero f true)) tt
+under-power f zero = subst (λ (x : Float). T (le x floatOne)) (sym (power-zero f true)) tt
 under-power f (suc n) = elim (lt-or-ge (suc n) (2 ^ 82)) [
-  | inl l ↦ subst (λ (x : Float). T (le x one)) (sym (before f true (suc n) l)) (finish-under f (Y / N / 256) (mantissa f (Y / N % 256) (Y % N)) (mantissa-in f (Y / N % 256) (Y % N) (mod-lt (Y / N) (lit< tt)) (mod-lt Y (lit< tt)) .1) (small n))
-  | inr g ↦ subst (λ (x : Float). T (le x one)) (sym (past f true (suc n) g)) zero-below
+  | inl l ↦ subst (λ (x : Float). T (le x floatOne)) (sym (before f true (suc n) l))
+      (finish-under f (Y / N / 256) (mantissa f (Y / N % 256) (Y % N))
+      (mantissa-in f (Y / N % 256) (Y % N) (mod-lt (Y / N) (lit< tt)) (mod-lt Y (lit< tt)) .1) (small n))
+  | inr g ↦ subst (λ (x : Float). T (le x floatOne)) (sym (past f true (suc n) g)) zero-below
 ]
   where
     Y : ℕ

@@ -10,8 +10,8 @@ use lib.Ieee.Fits.{down-pos}
 use Rattle.table.specs.Exact.{N, E}
 use Rattle.kernels.specs.Core.{biased, mantissa}
 use Rattle.kernels.proofs.Definitions.Cases.{before}
-use Rattle.kernels.specs.Kernels.{fromPower, cut, expDef}
-use Rattle.laws.specs.Kernels.{Near, ExpNear, powerBits, reach}
+use Rattle.kernels.specs.Kernels.{fromPower, wholeOf, expDef}
+use Rattle.laws.specs.Distances.{Near, ExpNear, powerBits, reach}
 use Rattle.laws.proofs.Distances.Finish.{finish-near, exponent-in}
 use Rattle.laws.proofs.Distances.Cores.{PowerNear, MantissaIn, slack}
 
@@ -61,5 +61,5 @@ cut-le x b w r z h = le-trans (le-of-mul-le-mul-right {k = b} (le-trans (div-mul
 pub exp-near : (f : Format) → PowerNear f → MantissaIn f → ExpNear f
 unfolding expDef
 exp-near f core mant s m e k h =
-    power-near f core mant s (m * up e) (down e) (cut m e (2 ^ 72)) (down-pos e) (cut-le (m * up e) (down e) (2 ^ 72) (reach f) (down-pos e) h)
+    power-near f core mant s (m * up e) (down e) (wholeOf m e (2 ^ 72)) (down-pos e) (cut-le (m * up e) (down e) (2 ^ 72) (reach f) (down-pos e) h)
     (cut-lo (m * up e) (down e) (2 ^ 72) (slack f) (down-pos e) (slack-pos f)) (cut-hi (m * up e) (down e) (2 ^ 72) (slack f))

@@ -15,7 +15,7 @@ use Rattle.kernels.specs.Kernels.{finish}
 use Rattle.kernels.proofs.Definitions.Cases.{at-mid}
 use Rattle.soft.proofs.Rounding.Closest.{closest-near}
 use Rattle.soft.proofs.Rounding.Place.{Range, placed-value, kept-le}
-use Rattle.laws.specs.Kernels.{Near, powerBits, reach}
+use Rattle.laws.specs.Distances.{Near, powerBits, reach}
 
 ruleset ac = (mul-assoc, mul-comm, mul-left-comm)
 
@@ -78,7 +78,8 @@ module _ (f : Format) (K M : ℕ) (lo : 2 ^ 62 ≤ M) (hi : M < 2 ^ 63) (a : 204
   value =
       subst (λ (y : Float). HasValue y false (kept * 2 ^ (K - tOf f)) (2 ^ low f)) (ap (λ (x : ℕ). round f false (M * 2 ^ K) (2 ^ x)) (whole f) ∙ sym (at-mid f K M a (le-of-lt b)))
       (subst (λ (x : ℕ). HasValue (round f false (M * 2 ^ K) (2 ^ (low f + gOf f))) false (closest M (2 ^ x) * 2 ^ (K - tOf f)) (2 ^ low f)) (shift-is f K tl)
-      (placed-value f (gOf f) (tOf f) M K (range f) lo hi false (subst (λ (x : ℕ). closest M (2 ^ x) * 2 ^ (K - tOf f) < 2 ^ (low f + suc (emax f))) (sym (shift-is f K tl)) under)))
+      (placed-value f (gOf f) (tOf f) M K (range f) lo hi false
+      (subst (λ (x : ℕ). closest M (2 ^ x) * 2 ^ (K - tOf f) < 2 ^ (low f + suc (emax f))) (sym (shift-is f K tl)) under)))
 
   -- kept * 2 ^ d lies within M / 2 ^ prec of M
   near-up : kept * 2 ^ dOf f * 2 ^ prec f ≤ M * (2 ^ prec f + 1)
@@ -109,7 +110,8 @@ module _ (f : Format) (K M : ℕ) (lo : 2 ^ 62 ≤ M) (hi : M < 2 ^ 63) (a : 204
           back p z = omega arith
 
           go : (r : ℕ) → p ≡ r + 1 → m * r ≤ q * p
-          go r i = half (m * r) (q * p) (cancel (m * r * 2) (q * p * 2) (d * p) (m * 2) (le-trans (le-of-eq (unfolded m r p i)) (le-trans (mul-le-mul-right p h) (le-of-eq (spread q d p)))) (twice m (d * p) e l))
+          go r i = half (m * r) (q * p) (cancel (m * r * 2) (q * p * 2) (d * p) (m * 2)
+              (le-trans (le-of-eq (unfolded m r p i)) (le-trans (mul-le-mul-right p h) (le-of-eq (spread q d p)))) (twice m (d * p) e l))
             where
               half : (x y : ℕ) → x * 2 ≤ y * 2 → x ≤ y
               half x y h = omega arith
@@ -141,7 +143,9 @@ over : (x W e c v n m r g p : ℕ) → 0 < r → 0 < g → x * W ≡ c * e → c
 over x W e c v n m r g p zr zg ex h1 h2 t zW =
     le-of-mul-le-mul-right {k = W * (r * g)}
     (le-trans (le-of-eq (simp ac (simp ac at (ap (λ (y : ℕ). y * (m * p * r * g)) ex))))
-    (le-trans (le-of-eq a1) (le-trans (mul-le-mul-right (e * m * p * g) h1) (le-trans (le-of-eq a2) (le-trans (mul-le-mul-right ((r + 1) * e * p) h2) (le-trans (le-of-eq a3) (le-trans (mul-le-mul-left (n * W * e) t) (le-of-eq a4))))))))
+    (le-trans (le-of-eq a1) (le-trans (mul-le-mul-right (e * m * p * g) h1)
+    (le-trans (le-of-eq a2) (le-trans (mul-le-mul-right ((r + 1) * e * p) h2)
+    (le-trans (le-of-eq a3) (le-trans (mul-le-mul-left (n * W * e) t) (le-of-eq a4))))))))
     (mul-pos zW (mul-pos zr zg))
   where
     a1 : c * e * (m * p * r * g) ≡ c * r * (e * m * p * g)
@@ -169,7 +173,9 @@ below : (x W e c v n m r r1 g g1 p p1 : ℕ) → 0 < r → 0 < g → x * W ≡ c
     → n * e * p1 ≤ x * m * p
 below x W e c v n m r r1 g g1 p p1 zr zg ex h1 h2 t zW =
     le-of-mul-le-mul-right {k = W * (r * g)}
-    (le-trans (le-of-eq a4) (le-trans (mul-le-mul-left (n * W * e) t) (le-trans (le-of-eq a3) (le-trans (mul-le-mul-right (r1 * e * p) h2) (le-trans (le-of-eq a2) (le-trans (mul-le-mul-right (e * m * p * g) h1) (le-trans (le-of-eq a1)
+    (le-trans (le-of-eq a4) (le-trans (mul-le-mul-left (n * W * e) t)
+    (le-trans (le-of-eq a3) (le-trans (mul-le-mul-right (r1 * e * p) h2)
+    (le-trans (le-of-eq a2) (le-trans (mul-le-mul-right (e * m * p * g) h1) (le-trans (le-of-eq a1)
     (le-of-eq (sym (simp ac (simp ac at (ap (λ (y : ℕ). y * (m * p * r * g)) ex))))))))))))
     (mul-pos zW (mul-pos zr zg))
   where
@@ -237,9 +243,13 @@ finish-near f K M q lo hi a b h = go (finish f K M) (value f K M lo hi a b)
     go (inf s) v = absurd v
     go (fin true m e) v = absurd (true≢false (v .0))
     go (fin false m e) v =
-        let is : m * up e * 2 ^ 2110 ≡ c * 2 ^ dOf f * 2 ^ K * down e = same (m * up e) c (2 ^ (K - tOf f)) (2 ^ dOf f) 0 (2 ^ low f) 0 (down e) (2 ^ K) (2 ^ 2110) (pow-pos (low f)) (v .1) join in (
-          over (m * up e) (2 ^ 2110) (down e) (c * 2 ^ dOf f * 2 ^ K) (M * 2 ^ K) (q .num) (q .den) (2 ^ prec f) (2 ^ coreBits f) (2 ^ powerBits f) (pow-pos (prec f)) (pow-pos (coreBits f)) is scaled-up (h .0) (total-up f) (pow-pos 2110),
-          below (m * up e) (2 ^ 2110) (down e) (c * 2 ^ dOf f * 2 ^ K) (M * 2 ^ K) (q .num) (q .den) (2 ^ prec f) (2 ^ prec f - 1) (2 ^ coreBits f) (2 ^ coreBits f - 1) (2 ^ powerBits f) (2 ^ powerBits f - 1) (pow-pos (prec f)) (pow-pos (coreBits f)) is scaled-down (h .1) (total-down f) (pow-pos 2110),
+        let is : m * up e * 2 ^ 2110 ≡ c * 2 ^ dOf f * 2 ^ K * down e = same (m * up e) c (2 ^ (K - tOf f)) (2 ^ dOf f) 0 (2 ^ low f) 0 (down e)
+        (2 ^ K) (2 ^ 2110) (pow-pos (low f)) (v .1) join in (
+          over (m * up e) (2 ^ 2110) (down e) (c * 2 ^ dOf f * 2 ^ K) (M * 2 ^ K) (q .num) (q .den) (2 ^ prec f) (2 ^ coreBits f) (2 ^ powerBits f)
+              (pow-pos (prec f)) (pow-pos (coreBits f)) is scaled-up (h .0) (total-up f) (pow-pos 2110),
+          below (m * up e) (2 ^ 2110) (down e) (c * 2 ^ dOf f * 2 ^ K) (M * 2 ^ K) (q .num) (q .den) (2 ^ prec f) (2 ^ prec f - 1) (2 ^ coreBits f)
+              (2 ^ coreBits f - 1) (2 ^ powerBits f) (2 ^ powerBits f - 1) (pow-pos (prec f)) (pow-pos (coreBits f)) is scaled-down (h .1) (total-down f)
+              (pow-pos 2110),
         )
 
 -- ---- where the argument reaches no further than 86 or 700, the exponent is in the normal range

@@ -1,6 +1,6 @@
 -- All that is promised of exp, ln and pow. Assumes nothing.
 use lib.Ieee.{Format}
-use Rattle.laws.specs.Kernels.{Kernels}
+use Rattle.laws.specs.Distances.{Kernels}
 use Rattle.laws.proofs.Distances.Exp.{exp-near}
 use Rattle.laws.proofs.Distances.Ends.{exp-ends}
 use Rattle.laws.proofs.Distances.Ln.{ln-close}

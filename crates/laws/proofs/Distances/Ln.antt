@@ -14,11 +14,11 @@ use lib.Ieee.Fits.{and-l, and-r}
 use lib.Ieee.Nearest.{closest}
 use lib.Ieee.Scale.{normal-of-fraction}
 use Rattle.table.specs.Exact.{L}
-use Rattle.kernels.specs.Core.{below, logarithm}
+use Rattle.kernels.specs.Core.{logarithm}
 use Rattle.kernels.specs.Kernels.{lnDef}
 use Rattle.soft.proofs.Rounding.Place.{round-none}
 use Rattle.soft.proofs.Rounding.Relative.{kept-up, kept-down, kept-value}
-use Rattle.laws.specs.Kernels.{Close, LnClose, logBits}
+use Rattle.laws.specs.Distances.{Close, LnClose, logBits}
 use Rattle.laws.proofs.Distances.Cores.{LogarithmNear}
 use Rattle.laws.proofs.Distances.logarithm.Core.{error}
 use Rattle.laws.proofs.Distances.logarithm.Near.{LogNear}
@@ -70,7 +70,10 @@ less-by a b c k h = go (leb b a) (leb→le b a) (nleb→lt b a)
 settle : (D v e w δ t r p q : ℕ) → D * (t * r) ≤ v * e * t + δ * (w * e) → p ≤ r → δ * q ≤ t * r → 0 < t * r → D * (p * q) ≤ v * e * q + w * e * p
 settle D v e w δ t r p q h hp hd z =
     le-of-mul-le-mul-right {k = t * r}
-    (le-trans (le-of-eq (turn D p q (t * r))) (le-trans (mul-le-mul-right (p * q) h) (le-trans (le-of-eq (spread (v * e) t (w * e) δ p q)) (le-trans (add-le-add (mul-le-mul-left (v * e * q) (mul-le-mul-left t hp)) (mul-le-mul-left (w * e * p) hd)) (le-of-eq (sym (add-mul (v * e * q) (w * e * p) (t * r))))))))
+    (le-trans (le-of-eq (turn D p q (t * r))) (le-trans (mul-le-mul-right (p * q) h)
+    (le-trans (le-of-eq (spread (v * e) t (w * e) δ p q))
+    (le-trans (add-le-add (mul-le-mul-left (v * e * q) (mul-le-mul-left t hp)) (mul-le-mul-left (w * e * p) hd))
+    (le-of-eq (sym (add-mul (v * e * q) (w * e * p) (t * r))))))))
     z
   where
     turn : (D p q k : ℕ) → D * (p * q) * k ≡ D * k * (p * q)
@@ -90,7 +93,8 @@ up-go : (x e g v w δ t r p q : ℕ) → x * t * r ≤ g * e * (r + 1) → g * w
 up-go x e g v w δ t r p q h1 h2 hp hd z =
     settle (x * w - v * e) v e w (δ * (r + 1)) t r p q
     (less-by (x * w) (v * e) (v * e * t + δ * (r + 1) * (w * e)) (t * r)
-    (le-trans (le-of-eq (a1 x w t r)) (le-trans (mul-le-mul-right w h1) (le-trans (le-of-eq (a2 g e (r + 1) w)) (le-trans (mul-le-mul-right (e * (r + 1)) h2) (le-of-eq (a3 v t δ w e r)))))))
+    (le-trans (le-of-eq (a1 x w t r)) (le-trans (mul-le-mul-right w h1)
+    (le-trans (le-of-eq (a2 g e (r + 1) w)) (le-trans (mul-le-mul-right (e * (r + 1)) h2) (le-of-eq (a3 v t δ w e r)))))))
     hp hd z
   where
     a1 : (x w t r : ℕ) → x * w * (t * r) ≡ x * t * r * w
@@ -107,7 +111,10 @@ down-go : (x e g v w δ t r r1 p q : ℕ) → g * e * r1 ≤ x * t * r → v * t
 down-go x e g v w δ t r r1 p q h1 h2 er hp hd z =
     settle (v * e - x * w) v e w (δ * r1) t r p q
     (less-by (v * e) (x * w) (v * e * t + δ * r1 * (w * e)) (t * r)
-    (le-trans (le-of-eq (ap (λ (y : ℕ). v * e * (t * y)) er ∙ a1 v e t r1)) (le-trans (add-le-add (le-trans (mul-le-mul-right (e * r1) h2) (le-trans (le-of-eq (a2 g δ w e r1)) (add-le-add (le-trans (mul-le-mul-right w h1) (le-of-eq (a3 x t r w))) (le-refl (δ * r1 * (w * e)))))) (le-refl (v * e * t))) (le-of-eq (a4 (x * w * (t * r)) (δ * r1 * (w * e)) (v * e * t))))))
+    (le-trans (le-of-eq (ap (λ (y : ℕ). v * e * (t * y)) er ∙ a1 v e t r1))
+    (le-trans (add-le-add (le-trans (mul-le-mul-right (e * r1) h2)
+    (le-trans (le-of-eq (a2 g δ w e r1)) (add-le-add (le-trans (mul-le-mul-right w h1) (le-of-eq (a3 x t r w))) (le-refl (δ * r1 * (w * e))))))
+    (le-refl (v * e * t))) (le-of-eq (a4 (x * w * (t * r)) (δ * r1 * (w * e)) (v * e * t))))))
     hp hd z
   where
     a1 : (v e t s : ℕ) → v * e * (t * (s + 1)) ≡ v * t * (e * s) + v * e * t
@@ -150,7 +157,9 @@ doubled c g l t p z h = le-of-mul-le-mul-right {k = p} (le-trans h (le-trans (mu
 
 -- from smallest values to the value: x / e is c / l
 carry-up : (x c e g l t p r : ℕ) → 0 < l → x * l ≡ c * e → c * t * p ≤ g * l * r → x * t * p ≤ g * e * r
-carry-up x c e g l t p r z h k = le-of-mul-le-mul-right {k = l} (le-trans (le-of-eq (simp ac (simp ac at (ap (λ (y : ℕ). y * (t * p)) h)))) (le-trans (le-of-eq (a1 c e t p)) (le-trans (mul-le-mul-right e k) (le-of-eq (a2 g l r e))))) z
+carry-up x c e g l t p r z h k = le-of-mul-le-mul-right {k = l}
+    (le-trans (le-of-eq (simp ac (simp ac at (ap (λ (y : ℕ). y * (t * p)) h))))
+    (le-trans (le-of-eq (a1 c e t p)) (le-trans (mul-le-mul-right e k) (le-of-eq (a2 g l r e))))) z
   where
     a1 : (c e t p : ℕ) → c * e * (t * p) ≡ c * t * p * e
     a1 c e t p = simp ac
@@ -159,7 +168,9 @@ carry-up x c e g l t p r z h k = le-of-mul-le-mul-right {k = l} (le-trans (le-of
     a2 g l r e = simp ac
 
 carry-down : (x c e g l t p r : ℕ) → 0 < l → x * l ≡ c * e → g * l * r ≤ c * t * p → g * e * r ≤ x * t * p
-carry-down x c e g l t p r z h k = le-of-mul-le-mul-right {k = l} (le-trans (le-of-eq (a2 g l r e)) (le-trans (mul-le-mul-right e k) (le-trans (le-of-eq (a1 c e t p)) (le-of-eq (sym (simp ac (simp ac at (ap (λ (y : ℕ). y * (t * p)) h)))))))) z
+carry-down x c e g l t p r z h k = le-of-mul-le-mul-right {k = l}
+    (le-trans (le-of-eq (a2 g l r e)) (le-trans (mul-le-mul-right e k)
+    (le-trans (le-of-eq (a1 c e t p)) (le-of-eq (sym (simp ac (simp ac at (ap (λ (y : ℕ). y * (t * p)) h)))))))) z
   where
     a1 : (c e t p : ℕ) → c * t * p * e ≡ c * e * (t * p)
     a1 c e t p = simp ac
@@ -181,13 +192,17 @@ module _ (f : Format) (m : ℕ) (e : ℤ) (k : T (fits f (fin false (suc m) e)))
   w = L (suc m) e .size .den
 
   -- of a result x / d with the logarithm's sign that lies within 2 ^ -prec of g / 2 ^ 72
-  conclude : (t : Bool) (n : ℕ) (d : ℤ) → t ≡ s → n * up d * 2 ^ 72 * 2 ^ prec f ≤ g * down d * (2 ^ prec f + 1) → g * down d * (2 ^ prec f - 1) ≤ n * up d * 2 ^ 72 * 2 ^ prec f → Close (logBits f) (fin t n d) (L (suc m) e)
+  conclude : (t : Bool) (n : ℕ) (d : ℤ) → t ≡ s → n * up d * 2 ^ 72 * 2 ^ prec f ≤ g * down d * (2 ^ prec f + 1)
+      → g * down d * (2 ^ prec f - 1) ≤ n * up d * 2 ^ 72 * 2 ^ prec f → Close (logBits f) (fin t n d) (L (suc m) e)
   conclude t n d ts hu hd =
-      le-trans (le-of-eq (ap (λ (c : Bool). cond c (n * up d * w - v * down d + (v * down d - n * up d * w)) (n * up d * w + v * down d) * 2 ^ (logBits f + 48)) (ap (λ (c : Bool). Bool·beq t c) (sym (near .sign) ∙ sym ts) ∙ beq-refl t)))
+      le-trans (le-of-eq (ap (λ (c : Bool). cond c (n * up d * w - v * down d + (v * down d - n * up d * w))
+      (n * up d * w + v * down d) * 2 ^ (logBits f + 48)) (ap (λ (c : Bool). Bool·beq t c) (sym (near .sign) ∙ sym ts) ∙ beq-refl t)))
       (le-trans (le-of-eq (ap (λ (c : ℕ). (n * up d * w - v * down d + (v * down d - n * up d * w)) * c) (pow-add 2 (logBits f) 48)))
       (both (n * up d * w - v * down d) (v * down d - n * up d * w) (2 ^ logBits f * 2 ^ 48) (v * down d * 2 ^ 48 + w * down d * 2 ^ logBits f) 0
-      (up-go (n * up d) (down d) g v w (error f) (2 ^ 72) (2 ^ prec f) (2 ^ logBits f) (2 ^ 48) hu (near .above) (roomy f .0) (roomy f .1) (mul-pos (pow-pos 72) (pow-pos (prec f))))
-      (down-go (n * up d) (down d) g v w (error f) (2 ^ 72) (2 ^ prec f) (2 ^ prec f - 1) (2 ^ logBits f) (2 ^ 48) hd (near .below) (back (2 ^ prec f) (pow-pos (prec f))) (roomy f .0)
+      (up-go (n * up d) (down d) g v w (error f) (2 ^ 72) (2 ^ prec f) (2 ^ logBits f) (2 ^ 48) hu (near .above) (roomy f .0) (roomy f .1)
+      (mul-pos (pow-pos 72) (pow-pos (prec f))))
+      (down-go (n * up d) (down d) g v w (error f) (2 ^ 72) (2 ^ prec f) (2 ^ prec f - 1) (2 ^ logBits f) (2 ^ 48) hd (near .below)
+      (back (2 ^ prec f) (pow-pos (prec f))) (roomy f .0)
       (le-trans (mul-le-mul-right (2 ^ 48) (mul-le-mul-left (error f) (under (2 ^ prec f)))) (roomy f .1)) (mul-pos (pow-pos 72) (pow-pos (prec f))))
       (one-side (n * up d * w) (v * down d))))
     where
@@ -201,7 +216,8 @@ module _ (f : Format) (m : ℕ) (e : ℤ) (k : T (fits f (fin false (suc m) e)))
   at-zero : g ≡ 0 → Close (logBits f) (round f s g (2 ^ 72)) (L (suc m) e)
   at-zero z =
       subst (λ (y : Float). Close (logBits f) y (L (suc m) e)) (sym (ap (λ (x : ℕ). round f s x (2 ^ 72)) z ∙ round-none f s (2 ^ 72) (pow-pos 72)))
-      (conclude s 0 (pos 0) refl (le-trans (le-of-eq (zero-mul (2 ^ prec f))) zero-le) (le-trans (le-of-eq (ap (λ (x : ℕ). x * 1 * (2 ^ prec f - 1)) z ∙ zero-mul (2 ^ prec f - 1))) zero-le))
+      (conclude s 0 (pos 0) refl (le-trans (le-of-eq (zero-mul (2 ^ prec f))) zero-le)
+      (le-trans (le-of-eq (ap (λ (x : ℕ). x * 1 * (2 ^ prec f - 1)) z ∙ zero-mul (2 ^ prec f - 1))) zero-le))
 
   -- 2 ^ -72 is in the normal range of either format
   normal : 0 < g → prec f ≤ size (g * 2 ^ low f / 2 ^ 72)
@@ -217,7 +233,9 @@ module _ (f : Format) (m : ℕ) (e : ℤ) (k : T (fits f (fin false (suc m) e)))
   small h =
       lt-of-lt-of-le
       (lt-of-mul-lt-mul-right (2 ^ 72) (lt-of-le-of-lt (doubled kept g (2 ^ low f) (2 ^ 72) (2 ^ prec f) (pow-pos (prec f)) (kept-up f s g (2 ^ 72) (pow-pos 72) (normal h)))
-      (lt-of-lt-of-le (twice-lt (g * 2 ^ low f) (2 ^ 82 * 2 ^ low f) (mul-lt-mul-of-pos-right (mag-lt f m e k) (pow-pos (low f)))) (le-of-eq (ap (λ (x : ℕ). x * 2) (sym (pow-add 2 82 (low f))) ∙ sym (pow-add 2 (82 + low f) 1) ∙ ap (λ (x : ℕ). 2 ^ x) (sum (low f)) ∙ pow-add 2 (low f + 11) 72)))))
+      (lt-of-lt-of-le (twice-lt (g * 2 ^ low f) (2 ^ 82 * 2 ^ low f) (mul-lt-mul-of-pos-right (mag-lt f m e k) (pow-pos (low f))))
+      (le-of-eq (ap (λ (x : ℕ). x * 2) (sym (pow-add 2 82 (low f))) ∙ sym (pow-add 2 (82 + low f) 1) ∙ ap (λ (x : ℕ). 2 ^ x) (sum (low f))
+      ∙ pow-add 2 (low f + 11) 72)))))
       (pow-mono (le-of-lt (roomy f .3)))
     where
       twice-lt : (x y : ℕ) → x < y → x * 2 < y * 2

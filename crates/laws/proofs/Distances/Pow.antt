@@ -10,8 +10,8 @@ use lib.Ieee.Fits.{down-pos}
 use Rattle.table.specs.Exact.{E, L}
 use Rattle.kernels.specs.Core.{logarithm}
 use Rattle.kernels.proofs.Definitions.Cases.{at-most-16, in-domain}
-use Rattle.kernels.specs.Kernels.{fromPower, cut, powDef}
-use Rattle.laws.specs.Kernels.{Near, PowNear, PowEnds, argument, powerBits, reach, edge, ended}
+use Rattle.kernels.specs.Kernels.{fromPower, wholeOf, powDef}
+use Rattle.laws.specs.Distances.{Near, PowNear, PowEnds, argument, powerBits, reach, edge, ended}
 use Rattle.laws.proofs.Distances.Cores.{PowerNear, MantissaIn, LogarithmNear, slack}
 use Rattle.laws.proofs.Distances.logarithm.Core.{error}
 use Rattle.laws.proofs.Distances.logarithm.Near.{LogNear, L-den-pos}
@@ -43,7 +43,10 @@ module _ (x b g v w δ σ : ℕ) (zb : 0 < b) (y : x ≤ 16 * b) (room : 16 * δ
 
   pub hi : (t : ℕ) → g * w ≤ v * t + δ * w → x * g / b * (b * w) ≤ x * v * t + σ * (b * w)
   hi t h =
-      le-trans (le-of-eq (sym (mul-assoc (x * g / b) b w))) (le-trans (mul-le-mul-right w (div-mul-le-self (x * g) b)) (le-trans (le-of-eq (mul-assoc x g w)) (le-trans (mul-le-mul-left x h) (le-trans (le-of-eq (spread x v t δ w)) (tail (x * v * t) (x * (δ * w)) (b * w) (σ * (b * w)) spare)))))
+      le-trans (le-of-eq (sym (mul-assoc (x * g / b) b w)))
+      (le-trans (mul-le-mul-right w (div-mul-le-self (x * g) b))
+      (le-trans (le-of-eq (mul-assoc x g w)) (le-trans (mul-le-mul-left x h)
+      (le-trans (le-of-eq (spread x v t δ w)) (tail (x * v * t) (x * (δ * w)) (b * w) (σ * (b * w)) spare)))))
     where
       spread : (x v t δ w : ℕ) → x * (v * t + δ * w) ≡ x * v * t + x * (δ * w)
       spread x v t δ w = omega arith
@@ -53,8 +56,11 @@ module _ (x b g v w δ σ : ℕ) (zb : 0 < b) (y : x ≤ 16 * b) (room : 16 * δ
 
   pub lo : (t : ℕ) → v * t ≤ (g + δ) * w → x * v * t ≤ (x * g / b + σ) * (b * w)
   lo t h =
-      le-trans (le-of-eq (mul-assoc x v t)) (le-trans (mul-le-mul-left x h) (le-trans (le-of-eq (spread x g δ w)) (le-trans (sum (x * g * w) (x * (δ * w)) ((x * g / b + 1) * (b * w)) (le-trans (mul-le-mul-right w (le-of-lt (lt-div-mul-add {a = x * g} zb))) (le-of-eq (turn (x * g / b) b w))))
-      (le-trans (le-of-eq (join (x * g / b) (b * w) (x * (δ * w)))) (le-trans (last (x * g / b * (b * w)) (x * (δ * w) + b * w) (σ * (b * w)) spare) (le-of-eq (sym (add-mul (x * g / b) σ (b * w)))))))))
+      le-trans (le-of-eq (mul-assoc x v t)) (le-trans (mul-le-mul-left x h)
+      (le-trans (le-of-eq (spread x g δ w)) (le-trans (sum (x * g * w) (x * (δ * w)) ((x * g / b + 1) * (b * w))
+      (le-trans (mul-le-mul-right w (le-of-lt (lt-div-mul-add {a = x * g} zb))) (le-of-eq (turn (x * g / b) b w))))
+      (le-trans (le-of-eq (join (x * g / b) (b * w) (x * (δ * w))))
+      (le-trans (last (x * g / b * (b * w)) (x * (δ * w) + b * w) (σ * (b * w)) spare) (le-of-eq (sym (add-mul (x * g / b) σ (b * w)))))))))
     where
       spread : (x g δ w : ℕ) → x * ((g + δ) * w) ≡ x * g * w + x * (δ * w)
       spread x g δ w = omega arith
@@ -100,9 +106,9 @@ pow-near f core mant near m e t n d k l p r = at (near (suc m) e (zero-lt-suc m)
         let above = hi x b g v w (error f) (slack f) (down-pos d) (at-most-16 t n d p) (slack-is f) (2 ^ 72) (a .above) in
         let under = lo x b g v w (error f) (slack f) (down-pos d) (at-most-16 t n d p) (slack-is f) (2 ^ 72) (a .below) in
         subst (λ (y : Float). Near (powerBits f) y (E (unlike (L (suc m) e .negative) t) (x * v) (b * w))) (sym (in-domain f m e (fin t n d) p))
-        (subst (λ (s : Bool). Near (powerBits f) (fromPower f (unlike (logarithm f (suc m) e .negative) t) (cut n d g)) (E (unlike s t) (x * v) (b * w))) (a .sign)
-        (power-near f core mant (unlike (logarithm f (suc m) e .negative) t) (x * v) (b * w) (cut n d g) z
-        (reaches (cut n d g) (b * w) (x * v) (reach f) (2 ^ 72) (slack f) z above r (slack-small f)) under above))
+        (subst (λ (s : Bool). Near (powerBits f) (fromPower f (unlike (logarithm f (suc m) e .negative) t) (wholeOf n d g)) (E (unlike s t) (x * v) (b * w))) (a .sign)
+        (power-near f core mant (unlike (logarithm f (suc m) e .negative) t) (x * v) (b * w) (wholeOf n d g) z
+        (reaches (wholeOf n d g) (b * w) (x * v) (reach f) (2 ^ 72) (slack f) z above r (slack-small f)) under above))
 
 -- past the ends, whatever the slack
 passes : (q z a r t σ : ℕ) → 0 < z → a * t ≤ (q + σ) * z → r * z ≤ a → σ ≤ 2 ^ 26 → r * t - 2 ^ 26 ≤ q
@@ -126,5 +132,7 @@ pow-ends f near m e t n d k l p r = at (near (suc m) e (zero-lt-suc m) (digits-b
         let b = down d in
         let under = lo x b g v w (error f) (slack f) (down-pos d) (at-most-16 t n d p) (slack-is f) (2 ^ 72) (a .below) in
         in-domain f m e (fin t n d) p
-        ∙ power-ends f (unlike (logarithm f (suc m) e .negative) t) (cut n d g) (passes (cut n d g) (b * w) (x * v) (edge f) (2 ^ 72) (slack f) (mul-pos (down-pos d) (L-den-pos (suc m) e (zero-lt-suc m))) under r (slack-small f))
+        ∙ power-ends f (unlike (logarithm f (suc m) e .negative) t) (wholeOf n d g)
+        (passes (wholeOf n d g) (b * w) (x * v) (edge f) (2 ^ 72) (slack f) (mul-pos (down-pos d) (L-den-pos (suc m) e (zero-lt-suc m))) under r
+        (slack-small f))
         ∙ ap (λ (s : Bool). ended (unlike s t)) (a .sign)

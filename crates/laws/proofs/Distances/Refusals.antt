@@ -7,8 +7,8 @@ use lib.IntN.{pos}
 use lib.Ieee.{Float, nan, inf, fin, Format, prec, emax, low, size, nearest, odd, units, round, unlike, isNan, le}
 use Rattle.table.specs.Exact.{N}
 use Rattle.kernels.specs.Core.{biased, mantissa, logarithm}
-use Rattle.kernels.specs.Kernels.{finish, fromPower, cut, powered, expDef, lnDef, powDef}
-use Rattle.laws.specs.Kernels.{ExpRefuses, LnRefuses, PowRefuses}
+use Rattle.kernels.specs.Kernels.{finish, fromPower, wholeOf, powered, expDef, lnDef, powDef}
+use Rattle.laws.specs.Distances.{ExpRefuses, LnRefuses, PowRefuses}
 
 either : (b : Bool) (x y : Float) → isNan x ≡ false → isNan y ≡ false → isNan (cond b x y) ≡ false
 either true x y h g = h
@@ -46,7 +46,7 @@ pub exp-refuses : (f : Format) → ExpRefuses f
 unfolding expDef isNan
 exp-refuses f nan = refl
 exp-refuses f (inf s) = refl
-exp-refuses f (fin s m e) = power-number f s (cut m e (2 ^ 72))
+exp-refuses f (fin s m e) = power-number f s (wholeOf m e (2 ^ 72))
 
 pub ln-refuses : (f : Format) → LnRefuses f
 unfolding lnDef isNan
@@ -70,6 +70,6 @@ pow-refuses f (fin false (suc m) e) (inf t) = ends t
     ends false = refl
 pow-refuses f (fin false (suc m) e) (fin t n d) = at (powered (fin t n d))
   where
-    at : (b : Bool) → isNan (cond b (fromPower f (unlike (logarithm f (suc m) e .negative) t) (cut n d (logarithm f (suc m) e .mag))) nan) ≡ not b
-    at true = power-number f (unlike (logarithm f (suc m) e .negative) t) (cut n d (logarithm f (suc m) e .mag))
+    at : (b : Bool) → isNan (cond b (fromPower f (unlike (logarithm f (suc m) e .negative) t) (wholeOf n d (logarithm f (suc m) e .mag))) nan) ≡ not b
+    at true = power-number f (unlike (logarithm f (suc m) e .negative) t) (wholeOf n d (logarithm f (suc m) e .mag))
     at false = refl

@@ -12,7 +12,7 @@ use lib.Ieee.Positive.{positive, positive-finite}
 use lib.Ieee.Scale.{finite}
 use Rattle.table.specs.Exact.{P, taylor, fact}
 use Rattle.table.specs.Entry.{entry}
-use Rattle.kernels.specs.Core.{firstFrom, gap, below, horner, downs, logarithm}
+use Rattle.kernels.specs.Core.{firstFrom, gap, lnBelow, horner, downs, logarithm}
 use Rattle.kernels.specs.Kernels.{powered, lnDef}
 use Rattle.kernels.specs.Calls.{exp32, ln32, pow32}
 use Rattle.domain.specs.Floats.{_+ᶠ_, _-ᶠ_, _*ᶠ_, _/ᶠ_, maxDef}
@@ -30,7 +30,7 @@ use Rattle.laws.proofs.Distances.Values.{pow-one, pow-at-most-one}
 -- ---- the factor
 -- ln 0.9, about -0.105
 ln-nine : ln32 (decimal 9 10) ≡ fin true 14141253 (negsuc 26)
-unfolding lnDef logarithm firstFrom gap below horner downs entry P taylor fact decimal
+unfolding lnDef logarithm firstFrom gap lnBelow horner downs entry P taylor fact decimal
 ln-nine = refl
 
 neg-least : (j : ℕ) (y : Float) → T (positive y) → Least j y → T (finite (neg y)) × Least j (neg y)

@@ -13,8 +13,8 @@ use Rattle.kernels.specs.Calls.{exp32, pow32}
 use Rattle.domain.specs.Floats.{_+ᶠ_, _-ᶠ_, _*ᶠ_, _/ᶠ_}
 use Rattle.domain.specs.Limits.{one}
 use Rattle.forward.specs.Stability.{lapseRaw, lapseMove, lapseDef}
-use Rattle.forward.specs.declared.stability.Branch.the-variants.{Lapse}
-use Rattle.forward.specs.declared.stability.State.{State}
+use Rattle.forward.specs.declared.state.Branch.the-variants.{Lapse}
+use Rattle.forward.specs.declared.state.State.{State}
 use Rattle.laws.proofs.Values.Sizes.{Size, size-finite, wider, plus, neg-size, unit}
 use Rattle.laws.proofs.Values.Operations.{plus-mul, mul-size, add-size, sub-size}
 use Rattle.laws.proofs.Values.Signs.{plus-of, plus-div, one-more}
@@ -92,4 +92,5 @@ module _ (w11 w12 w13 w14 divisor : Float) (last : State) (r : Float) (a : Size 
   lapse =
       let floor = last .s /ᶠ divisor in
       ap (λ (raw : Float). lapseMove raw floor) lapse-raw
-      ∙ ap (λ (t : Bool). cond t (record { s = floor; branch = Lapse (fin false 0 (pos 0)) floor true }) (record { s = fin false 0 (pos 0); branch = Lapse (fin false 0 (pos 0)) floor false })) (not-under floor (plus-div (last .s) divisor (q .above-s) v))
+      ∙ ap (λ (t : Bool). record { s = cond t floor (fin false 0 (pos 0)); branch = Lapse (fin false 0 (pos 0)) floor t })
+      (not-under floor (plus-div (last .s) divisor (q .above-s) v))

@@ -14,7 +14,7 @@ use lib.Ieee.Digits.{size-lt, size-reaches}
 use lib.Ieee.Fits.{and-i, eq→eqb, down-pos}
 use Rattle.table.specs.Exact.{N}
 use Rattle.table.specs.Entry.{entry}
-use Rattle.kernels.specs.Core.{downs, horner, index, gap, below, logAt, moved, logarithm}
+use Rattle.kernels.specs.Core.{downs, horner, index, gap, lnBelow, fixedLog, moved, logarithm}
 use Rattle.kernels.specs.Kernels.{powered}
 use Rattle.kernels.proofs.Definitions.First.{index-found}
 use Rattle.kernels.proofs.Definitions.Range.{horner-up}
@@ -29,8 +29,8 @@ most : horner (downs binary32) (2 ^ 64) ≤ 2 ^ 66
 unfolding horner downs
 most = lit≤ tt
 
-below-le : (g : ℕ) → g ≤ 2 ^ 64 → below binary32 g ≤ 2 ^ 67
-unfolding below
+below-le : (g : ℕ) → g ≤ 2 ^ 64 → lnBelow binary32 g ≤ 2 ^ 67
+unfolding lnBelow
 below-le g h = div-le-of-le-mul (2 ^ 63) (mul-le-mul h (le-trans (horner-up (downs binary32) h) most))
 
 gap-le : (i M : ℕ) → gap i M ≤ 2 ^ 64
@@ -45,7 +45,7 @@ abbrev Near : ℤ → Type 0
 Near (pos k) = k ≤ 16
 Near (negsuc k) = k < 14
 
-mag-lt : (k : ℤ) (i l : ℕ) → i ≤ 256 → l ≤ 2 ^ 67 → Near k → logAt k i l .mag < 34 * 256 * N
+mag-lt : (k : ℤ) (i l : ℕ) → i ≤ 256 → l ≤ 2 ^ 67 → Near k → fixedLog k i l .mag < 34 * 256 * N
 mag-lt (pos k) i l a b h = omega arith
 mag-lt (negsuc k) i l a b h = omega arith
 
@@ -82,7 +82,7 @@ log-size m e k u d =
     let z = size (suc m) in
     let w : M < 2 ^ 63 = normalised-lt (suc m) (lt-of-lt-of-le (digits-below binary32 false m e k) (lit≤ tt)) in
     let p : 0 < z = some m in
-    mag-lt (e +ℤ pos (z - 1)) i (below binary32 (gap i M)) (index-found M (le-of-lt w) .most) (below-le (gap i M) (gap-le i M))
+    mag-lt (e +ℤ pos (z - 1)) i (lnBelow binary32 (gap i M)) (index-found M (le-of-lt w) .most) (below-le (gap i M) (gap-le i M))
     (near (suc m) e (z - 1) (size-reaches (suc m) (z - 1) (less z p)) (subst (λ (x : ℕ). suc m < 2 ^ x) (back z p) (size-lt (suc m))) u d)
   where
     less : (z : ℕ) → 0 < z → z - 1 < z

@@ -9,9 +9,9 @@ use Rattle.kernels.specs.Calls.{exp32, pow32}
 use Rattle.domain.specs.Floats.{_+ᶠ_, _-ᶠ_, _*ᶠ_, maxDef}
 use Rattle.domain.specs.Limits.{one, two, three, four, eleven}
 use Rattle.forward.specs.Stability.{shortRaw, isFloored, shortValue, shortDef, successDef}
-use Rattle.forward.specs.declared.stability.Branch.the-variants.{SameDay, Success}
-use Rattle.forward.specs.declared.stability.Move.{Move}
-use Rattle.forward.specs.declared.stability.State.{State}
+use Rattle.forward.specs.declared.state.Branch.the-variants.{SameDay, Success}
+use Rattle.forward.specs.declared.state.Move.{Move}
+use Rattle.forward.specs.declared.state.State.{State}
 use Rattle.laws.proofs.Values.Sizes.{Size, size-finite, neg-size, unit}
 use Rattle.laws.proofs.Values.Operations.{mul-size, add-size, sub-size}
 use Rattle.laws.proofs.Values.Zeros.{Zero, one-is, one-less-one, unit-fits, zero-plus-one, times-zero, zero-times, times-one}

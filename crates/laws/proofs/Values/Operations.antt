@@ -11,7 +11,7 @@ use lib.Ieee.Fits.{down-pos}
 use lib.Ieee.Positive.{num, den}
 use lib.Ieee.Scale.{finite}
 use Rattle.soft.proofs.Rounding.Sum.{sum-is}
-use Rattle.soft.specs.Cuts.{sumSign, sumSize}
+use Rattle.soft.specs.inner.Cuts.{sumSign, sumSize}
 use Rattle.domain.specs.Floats.{_+ᶠ_, _-ᶠ_, _*ᶠ_, _/ᶠ_}
 use Rattle.laws.proofs.Values.Sizes.{Size, plus, plus-round, neg-size, round-size}
 

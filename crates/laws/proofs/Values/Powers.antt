@@ -13,7 +13,7 @@ use lib.Ieee.Order.{round-mono}
 use Rattle.table.specs.Exact.{N}
 use Rattle.kernels.specs.Calls.{exp32, pow32}
 use Rattle.kernels.specs.Core.{BIAS, biased, mantissa, logarithm}
-use Rattle.kernels.specs.Kernels.{finish, fromPower, cut, powered, expDef, powDef}
+use Rattle.kernels.specs.Kernels.{finish, fromPower, wholeOf, powered, expDef, powDef}
 use Rattle.kernels.proofs.Definitions.Cases.{at-low, at-high, at-mid, past, before, in-domain}
 use Rattle.kernels.proofs.Definitions.Range.{mantissa-range}
 use Rattle.laws.proofs.Distances.Ends.{lt-or-ge}
@@ -37,7 +37,7 @@ pub plus-exp : (x : Float) → T (plus (exp32 x))
 unfolding expDef
 plus-exp nan = tt
 plus-exp (inf s) = tt
-plus-exp (fin s m e) = plus-power binary32 s (cut m e (2 ^ 72))
+plus-exp (fin s m e) = plus-power binary32 s (wholeOf m e (2 ^ 72))
 
 pub plus-pow : (x y : Float) → T (plus (pow32 x y))
 unfolding powDef
@@ -49,7 +49,7 @@ plus-pow (fin false (suc m) e) nan = plus-cond (powered nan) nan nan tt tt
 plus-pow (fin false (suc m) e) (inf t) = plus-cond (powered (inf t)) nan nan tt tt
 plus-pow (fin false (suc m) e) (fin t n d) =
     let l = logarithm binary32 (suc m) e in
-    plus-cond (powered (fin t n d)) (fromPower binary32 (unlike (l .negative) t) (cut n d (l .mag))) nan (plus-power binary32 (unlike (l .negative) t) (cut n d (l .mag))) tt
+    plus-cond (powered (fin t n d)) (fromPower binary32 (unlike (l .negative) t) (wholeOf n d (l .mag))) nan (plus-power binary32 (unlike (l .negative) t) (wholeOf n d (l .mag))) tt
 
 -- ---- at most 2 ^ k
 wide : (K k : ℕ) → K < 2048 + k → k < 128 → K ≤ 2048 + 127
@@ -78,14 +78,14 @@ power-size s mag k z l h =
     subst (Size k) (sym (before binary32 s mag (small mag k l h)))
     (finish-size (J / 256) (mantissa binary32 (J % 256) r) k (mantissa-range binary32 (J % 256) r (mod-lt J (lit< tt)) (le-of-lt (mod-lt (biased s mag) (lit< tt))) .1) (under s mag k z h) l)
 
-cut-most : (j m : ℕ) (e : ℤ) (w : ℕ) → m * up e ≤ 2 ^ j * down e → cut m e w ≤ 2 ^ j * w
+cut-most : (j m : ℕ) (e : ℤ) (w : ℕ) → m * up e ≤ 2 ^ j * down e → wholeOf m e w ≤ 2 ^ j * w
 cut-most j m e w h = div-le-of-le-mul (down e) (le-trans (mul-le-mul-right w h) (le-of-eq (mul-right-comm (2 ^ j) (down e) w ∙ mul-comm (2 ^ j * w) (down e))))
 
 pub exp-size : (j k : ℕ) (x : Float) → 0 < k → k < 128 → 2 ^ j * 2 ^ 72 < k * 256 * N → Size j x → Size k (exp32 x)
 unfolding expDef
 exp-size j k nan z l b h = absurd h
 exp-size j k (inf s) z l b h = absurd h
-exp-size j k (fin s m e) z l b h = power-size s (cut m e (2 ^ 72)) k z l (lt-of-le-of-lt (cut-most j m e (2 ^ 72) h) b)
+exp-size j k (fin s m e) z l b h = power-size s (wholeOf m e (2 ^ 72)) k z l (lt-of-le-of-lt (cut-most j m e (2 ^ 72) h) b)
 
 -- an exponent of at most 1 in size makes the logarithm no larger
 pub pow-size : (k m : ℕ) (e : ℤ) (y : Float) → 0 < k → k < 128 → logarithm binary32 (suc m) e .mag < k * 256 * N → T (powered y) → Size 0 y → Size k (pow32 (fin false (suc m) e) y)
@@ -94,7 +94,7 @@ pow-size k m e (inf t) z l b p h = absurd h
 pow-size k m e (fin t n d) z l b p h =
     let g = logarithm binary32 (suc m) e in
     subst (Size k) (sym (in-domain binary32 m e (fin t n d) p))
-    (power-size (unlike (g .negative) t) (cut n d (g .mag)) k z l (lt-of-le-of-lt (cut-most 0 n d (g .mag) h) (lt-of-le-of-lt (le-of-eq (one-mul (g .mag))) b)))
+    (power-size (unlike (g .negative) t) (wholeOf n d (g .mag)) k z l (lt-of-le-of-lt (cut-most 0 n d (g .mag) h) (lt-of-le-of-lt (le-of-eq (one-mul (g .mag))) b)))
 
 -- ---- at least 1
 high : (mag : ℕ) → 2048 ≤ (BIAS + mag) / N / 256
@@ -129,4 +129,4 @@ power-least mag = elim (lt-or-ge mag (2 ^ 82)) [
 
 pub exp-least : (m : ℕ) (e : ℤ) → T (le unit (exp32 (fin false m e)))
 unfolding expDef
-exp-least m e = power-least (cut m e (2 ^ 72))
+exp-least m e = power-least (wholeOf m e (2 ^ 72))

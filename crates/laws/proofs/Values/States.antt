@@ -7,7 +7,7 @@ use lib.Ieee.{Float, fin, ofBits, binary32, fits, lt}
 use lib.Ieee.Positive.{positive}
 use Rattle.domain.specs.Limits.{decimal, S_MIN, S_MAX, D_MIN, D_MAX, stabilityGood, difficultyGood}
 use Rattle.domain.specs.Floats.{clampDef}
-use Rattle.forward.specs.declared.stability.State.{State}
+use Rattle.forward.specs.declared.state.State.{State}
 use Rattle.forward.specs.Step.{clampState}
 use Rattle.laws.proofs.Values.Sizes.{Size}
 use Rattle.laws.proofs.Values.Operations.{Least}

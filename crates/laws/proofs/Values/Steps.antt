@@ -13,9 +13,9 @@ use Rattle.domain.specs.Weights.{_!_, weightsRefusal}
 use Rattle.forward.specs.Curve.{curveForward}
 use Rattle.forward.specs.Params.{curveFactor, paramsDef}
 use Rattle.forward.specs.declared.parameters.RuntimeParams.{RuntimeParams}
-use Rattle.forward.specs.declared.stability.Branch.the-variants.{SameDay, Lapse}
-use Rattle.forward.specs.declared.stability.Move.{Move}
-use Rattle.forward.specs.declared.stability.State.{State}
+use Rattle.forward.specs.declared.state.Branch.the-variants.{SameDay, Lapse}
+use Rattle.forward.specs.declared.state.Move.{Move}
+use Rattle.forward.specs.declared.state.State.{State}
 use Rattle.forward.specs.Step.{clampState, isFirst, difficultyDef, moveDef, reviewDef, stepDef}
 use Rattle.laws.proofs.Values.Powers.{plus-exp, exp-size}
 use Rattle.laws.proofs.Values.Zeros.{is-zero}

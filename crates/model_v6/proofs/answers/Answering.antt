@@ -1,22 +1,24 @@
 -- How an entry that has its refusal's number goes on: refused, or accepted with 21 weights. Assumes nothing.
 use Prim.Native.Nat.{ℕ}
-use mathlib.Core.Path.{_≡_, refl, sym, _∙_}
 use mathlib.Core.Bool.{Bool, true, false, cond}
 use mathlib.Core.List.{List}
+use mathlib.Core.Path.{_≡_, refl, sym, _∙_}
 use lib.Dec.{eqb}
 use lib.Ieee.{Float}
 use lib.ListN.{length}
 use borrow.Author.Tests.{eq-eqb, ne-eqb, eqb-true}
-use Rattle.domain.specs.Weights.{copyDef, weightsRefusal}
 use Rattle.domain.proofs.weights.Accepted.{accepted-length}
 use Rattle.domain.proofs.weights.Copy.{copy-whole}
+use Rattle.domain.specs.Weights.{copyDef, weightsRefusal}
 use Rattle.model_v6.specs.Answers.{scalarRefusal, scalarDef, refused, accepted}
 
-pub answers-refused : (w : List Float) (good : Bool) (x : Float) (n : ℕ) → n ≡ scalarRefusal w good → (n ≡ 0 → ⊥) → refused n ≡ scalarDef w good x
+pub answers-refused :
+    (w : List Float) (good : Bool) (x : Float) (n : ℕ) → n ≡ scalarRefusal w good → (n ≡ 0 → ⊥) → refused n ≡ scalarDef w good x
 unfolding scalarDef
 answers-refused w good x n e h = rw (← e, ne-eqb _ 0 h)
 
-pub answers-accepted : (w : List Float) (good : Bool) (x : Float) (n : ℕ) → n ≡ scalarRefusal w good → n ≡ 0 → accepted x ≡ scalarDef w good x
+pub answers-accepted :
+    (w : List Float) (good : Bool) (x : Float) (n : ℕ) → n ≡ scalarRefusal w good → n ≡ 0 → accepted x ≡ scalarDef w good x
 unfolding scalarDef
 answers-accepted w good x n e h = rw (← e, eq-eqb _ 0 h)
 

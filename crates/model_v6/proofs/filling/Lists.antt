@@ -1,18 +1,18 @@
 -- Stores into a copy of the given weights. Assumes nothing.
 use Prim.Native.Nat.{ℕ, _+_, _-_}
-use mathlib.Core.Path.{_≡_}
 use mathlib.Core.List.{List, [], _∷_, _++_}
-use native.Mathlib.Omega.{arith}
+use mathlib.Core.Path.{_≡_}
 use native.Mathlib.Nat.{zero-add, suc-add}
-use lib.Ieee.{Float, binary32}
+use native.Mathlib.Omega.{arith}
+use lib.Ieee.{Float}
 use lib.ListN.{length, replicate, set, length-set}
 use lib.Seq.{set-append-left}
-use Rattle.soft.specs.Fma.{fmaDef}
-use Rattle.kernels.specs.Calls.{ln32}
+use Rattle.domain.proofs.weights.Copy.{copy-short}
 use Rattle.domain.specs.Floats.{_+ᶠ_, _/ᶠ_}
 use Rattle.domain.specs.Limits.{zero32, half, one, two, three}
 use Rattle.domain.specs.Weights.{_!_, copyDef}
-use Rattle.domain.proofs.weights.Copy.{copy-short}
+use Rattle.kernels.specs.Calls.{ln32}
+use Rattle.model_v6.specs.Curve.{mul-add}
 use Rattle.model_v6.specs.Filling.{fill17, fill19}
 
 set-past : (p q : List Float) (k : ℕ) (a : Float) → set (p ++ q) (length p + k) a ≡ p ++ set q k a
@@ -32,9 +32,9 @@ pub stores-17 :
     set
     (set
     (set
-    (set (copyDef p) 4 (fmaDef binary32 (p ! 5) two (p ! 4)))
+    (set (copyDef p) 4 (mul-add (p ! 5) two (p ! 4)))
     5
-    (ln32 (fmaDef binary32 (p ! 5) three one) /ᶠ three))
+    (ln32 (mul-add (p ! 5) three one) /ᶠ three))
     6
     (p ! 6 +ᶠ half))
     20
@@ -42,8 +42,8 @@ pub stores-17 :
     fill17 p
 unfolding fill17
 stores-17 p l =
-    let w4 = fmaDef binary32 (p ! 5) two (p ! 4) in
-    let w5 = ln32 (fmaDef binary32 (p ! 5) three one) /ᶠ three in
+    let w4 = mul-add (p ! 5) two (p ! 4) in
+    let w5 = ln32 (mul-add (p ! 5) three one) /ᶠ three in
     let z = replicate (21 - length p) zero32 in
     rw (
       copy-short p (omega arith),

@@ -1,5 +1,4 @@
-// model_v6.rs on 21 weights: the first difficulty, and the difficulty after a review. Total, with an equation each.
-// `difficulty_v6` puts the checks in front.
+// The first difficulty, and the difficulty after a review.
 ghost use mathlib.Core.Path.{_≡_};
 ghost use Rattle.model_v6.specs.Difficulty.{initDifficultyDef, meanReversionDef, nextDifficultyDef};
 use domain::difficulty::clamp_difficulty;

@@ -1,6 +1,13 @@
 // The stability after a review: a success, a lapse, or a review on the same day.
 ghost use mathlib.Core.Path.{_≡_};
-ghost use Rattle.model_v6.specs.Stability.{successDef, lapseFloor, lapseRaw, failureDef, shortTermDef, increaseDef};
+ghost use Rattle.model_v6.specs.Stability.{
+  stabilityAfterSuccess,
+  failureFloor,
+  failureRaw,
+  stabilityAfterFailure,
+  increaseDef,
+  stabilityShortTerm,
+};
 use domain::floats::choose;
 use domain::floats::max;
 use domain::floats::min;
@@ -9,7 +16,7 @@ use kernels::exp::exp_f32;
 use kernels::pow::pow_f32;
 
 pub fn stability_after_success(w: &[f32; 21], s: f32, r: f32, d: f32, rating: u32) -> f32
-    ensures { λ q. ⌜ q ≡ successDef (now (w .entry)) s r d rating ⌝ }
+    ensures { λ q. ⌜ q ≡ stabilityAfterSuccess (now (w .entry)) s r d rating ⌝ }
 {
     let hard_penalty = choose(rating == 2, w[15], 1.0);
     let easy_bonus = choose(rating == 4, w[16], 1.0);
@@ -25,23 +32,23 @@ pub fn stability_after_success(w: &[f32; 21], s: f32, r: f32, d: f32, rating: u3
 }
 
 // A lapse leaves no more than this.
-fn lapse_floor(w: &[f32; 21], s: f32) -> f32
-    ensures { λ q. ⌜ q ≡ lapseFloor (now (w .entry)) s ⌝ }
+fn failure_floor(w: &[f32; 21], s: f32) -> f32
+    ensures { λ q. ⌜ q ≡ failureFloor (now (w .entry)) s ⌝ }
 {
     s / exp_f32(w[17] * w[18])
 }
 
-fn lapse_raw(w: &[f32; 21], s: f32, r: f32, d: f32) -> f32
-    ensures { λ q. ⌜ q ≡ lapseRaw (now (w .entry)) s r d ⌝ }
+fn failure_raw(w: &[f32; 21], s: f32, r: f32, d: f32) -> f32
+    ensures { λ q. ⌜ q ≡ failureRaw (now (w .entry)) s r d ⌝ }
 {
     w[11] * pow_f32(d, -w[12]) * (pow_f32(s + 1.0, w[13]) - 1.0) * exp_f32((1.0 - r) * w[14])
 }
 
 pub fn stability_after_failure(w: &[f32; 21], s: f32, r: f32, d: f32) -> f32
-    ensures { λ q. ⌜ q ≡ failureDef (now (w .entry)) s r d ⌝ }
+    ensures { λ q. ⌜ q ≡ stabilityAfterFailure (now (w .entry)) s r d ⌝ }
 {
-    let new_s_min = lapse_floor(w, s);
-    let new_s = lapse_raw(w, s, r, d);
+    let new_s_min = failure_floor(w, s);
+    let new_s = failure_raw(w, s, r, d);
     clamp_stability(min(new_s, new_s_min))
 }
 
@@ -56,7 +63,7 @@ fn increase(rating: u32, sinc: f32) -> f32
 }
 
 pub fn stability_short_term(w: &[f32; 21], s: f32, rating: u32) -> f32
-    ensures { λ q. ⌜ q ≡ shortTermDef (now (w .entry)) s rating ⌝ }
+    ensures { λ q. ⌜ q ≡ stabilityShortTerm (now (w .entry)) s rating ⌝ }
 {
     let grade = std::num::nearest_u32_to_f32(rating);
     let sinc = exp_f32(w[17] * (grade - 3.0 + w[18])) * pow_f32(s, -w[19]);

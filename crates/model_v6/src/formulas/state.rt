@@ -1,19 +1,15 @@
-// A card's memory state, and what a review makes of it.
+// What a review makes of a card's memory state.
 ghost use mathlib.Core.Path.{_≡_};
-ghost use Rattle.model_v6.specs.State.{afterDef, clampRating, nextStateDef};
+ghost use Rattle.model_v6.specs.NextState.{clampRating, stabilityAfter, nextStateDef};
 use crate::formulas::curve::power_forgetting_curve;
 use crate::formulas::curve::whole_days;
-use domain::difficulty::clamp_difficulty;
 use crate::formulas::difficulty::next_difficulty;
-use domain::limits::clamp_stability;
 use crate::formulas::stability::stability_after_failure;
 use crate::formulas::stability::stability_after_success;
 use crate::formulas::stability::stability_short_term;
-
-pub struct MemoryState {
-    pub stability: f32,
-    pub difficulty: f32,
-}
+use crate::state::MemoryState;
+use domain::difficulty::clamp_difficulty;
+use domain::limits::clamp_stability;
 
 // rating.clamp(1, 4)
 fn clamp_rating(rating: u32) -> u32
@@ -30,7 +26,7 @@ fn clamp_rating(rating: u32) -> u32
 
 // The stability after a review of the clamped state (s, d), at the retrievability r.
 fn stability_after(w: &[f32; 21], s: f32, d: f32, delta_t: f32, rating: u32, r: f32) -> f32
-    ensures { λ q. ⌜ q ≡ afterDef (now (w .entry)) s d «delta_t» rating r ⌝ }
+    ensures { λ q. ⌜ q ≡ stabilityAfter (now (w .entry)) s d «delta_t» rating r ⌝ }
 {
     if delta_t == 0.0 {
         return stability_short_term(w, s, rating);

@@ -10,10 +10,10 @@ use lib.ListN.{length, set}
 use Rattle.domain.specs.Weights.{_!_, inBox, weightsRefusal}
 use Rattle.checks.specs.Batch.{lengthAt}
 use Rattle.forward.proofs.Agreement.{by-cases}
-use Rattle.columns.specs.Ends.{answer}
-use Rattle.columns.specs.declared.ends.Loss.{Loss}
-use Rattle.promises.specs.Reads.{Slice, stepsRead, callReads, callMoves}
-use Rattle.promises.specs.Calls.{Call, Kind}
+use Rattle.analytic_v6.specs.Answers.{answer}
+use Rattle.analytic_v6.specs.declared.answers.Loss.{Loss}
+use Rattle.promises.specs.CallReads.{Slice, stepsRead, callReads, callMoves}
+use Rattle.promises.specs.LossCalls.{Call, Kind}
 use Rattle.promises.specs.Frozen.{SameInputs, SameWeights, Alike, weightRead, mayMove, with-weight}
 use Rattle.promises.proofs.reading.Box.{still-boxed, others}
 use Rattle.promises.proofs.reading.Steps.{SameSteps, steps-read-same, moves-none}

@@ -7,7 +7,7 @@ use native.Mathlib.Omega.{arith}
 use borrow.Author.Tests.{ltb-true, ltb-false}
 use lib.Dec.{T, ltb}
 use Rattle.backward.proofs.Keeps.{or-left, or-right}
-use Rattle.promises.specs.Reads.{some}
+use Rattle.promises.specs.CallReads.{some}
 
 -- all or none below n, the last or one before it
 last-or : (P : ℕ → Type 0) (n i : ℕ) → i < suc n → P n → ((j : ℕ) → j < n → P j) → P i

@@ -10,27 +10,27 @@ use lib.Ieee.{Float, eq, ofBits}
 use Rattle.domain.specs.Limits.{zero32}
 use Rattle.domain.specs.Weights.{_!_}
 use Rattle.checks.specs.Reads.{later, nonZero, prefixDay}
-use Rattle.checks.specs.Batch.{Table, at}
+use Rattle.checks.specs.Batch.{Table, History, at, history}
 use Rattle.forward.specs.Params.{paramsDef}
 use Rattle.forward.specs.declared.parameters.RuntimeParams.{RuntimeParams}
-use Rattle.forward.specs.Reads.{among, firstWeights, reviewReads, stepReads, Agree}
+use Rattle.forward.specs.WeightsRead.{among, firstWeights, reviewReads, stepReads, Agree}
 use Rattle.forward.specs.Step.{noState, isFirst, ratingNumber}
-use Rattle.forward.specs.declared.step.StepRecord.{StepRecord}
+use Rattle.forward.specs.declared.state.StepRecord.{StepRecord}
 use Rattle.forward.proofs.Agreement.{by-cases}
 use Rattle.backward.specs.Moves.{slotsOf}
 use Rattle.backward.proofs.Keeps.{or-left, or-right}
-use Rattle.columns.specs.Path.{stateAt, recordAt}
-use Rattle.laws.proofs.Agreement.Walk.{still-unread}
-use Rattle.promises.specs.Reads.{some, rowReads, stepsRead, callReads, columnMoves, callMoves}
+use Rattle.columns.specs.ForwardPass.{stateAt, recordAt}
+use Rattle.laws.proofs.Agreement.Walk.{Still, still-unread}
+use Rattle.promises.specs.CallReads.{some, rowReads, stepsRead, callReads, columnMoves, callMoves}
 use Rattle.promises.proofs.reading.Some.{none-of, none-some, some-of, some-same}
 
 -- in a loss call the first step is that of row 0
 pub reads-are :
-    (p : RuntimeParams) (ds rs : List Float) (columns column row : ℕ) (day rating : Float) →
-    stepReads (stateAt p ds rs columns column row) day rating row ≡ rowReads row day rating
+    (p : RuntimeParams) (h : History) (row : ℕ) (day rating : Float) →
+    stepReads (stateAt p h row) day rating row ≡ rowReads row day rating
 unfolding stepReads rowReads isFirst stateAt noState eq ofBits
-reads-are p ds rs columns column zero day rating = refl
-reads-are p ds rs columns column (suc row) day rating = rw (ne-eqb (suc row) 0 (suc-ne-zero row))
+reads-are p h zero day rating = refl
+reads-are p h (suc row) day rating = rw (ne-eqb (suc row) 0 (suc-ne-zero row))
 
 -- the list depends on no day but a read one
 read-later : (row : ℕ) (rating : Float) → eq rating zero32 ≡ false → eqb row 0 ≡ false → prefixDay row rating ≡ true
@@ -88,9 +88,9 @@ module _ (t : Table) (steps : ℕ → ℕ) (refusal : ℕ) (accepted : eqb refus
   -- two weight sets that agree on what the call reads agree on what each step reads
   pub agree-row :
       (w v : List Float) → ((k : ℕ) → callReads refusal t steps k ≡ true → w ! k ≡ v ! k) → (p : RuntimeParams) (row column : ℕ) → column < t .columns → row < steps column →
-      Agree (stepReads (stateAt p (t .days) (t .ratings) (t .columns) column row) (at t (t .days) row column) (at t (t .ratings) row column) row) w v
+      Agree (stepReads (stateAt p (history t column) row) (at t (t .days) row column) (at t (t .ratings) row column) row) w v
   agree-row w v h p row column c l k e =
-      h k (reads-row k row column c l (subst (λ (ks : List ℕ). among k ks ≡ true) (reads-are p (t .days) (t .ratings) (t .columns) column row _ _) e))
+      h k (reads-row k row column c l (subst (λ (ks : List ℕ). among k ks ≡ true) (reads-are p (history t column) row _ _) e))
 
   -- no slot moves but of a weight that is read
   module _ (w : List Float) (scored : ℕ → Bool) (k : ℕ) (unread : callReads refusal t steps k ≡ false) where
@@ -105,10 +105,10 @@ module _ (t : Table) (steps : ℕ → ℕ) (refusal : ℕ) (accepted : eqb refus
     row-unread row column c l = none-of _ (steps column) (none-of _ (t .columns) no-steps column c) row l
 
     row-still : (row column : ℕ) → column < t .columns → row < steps column →
-        among k (slotsOf (recordAt (paramsDef w) (t .days) (t .ratings) (t .columns) column row .branch) (recordAt (paramsDef w) (t .days) (t .ratings) (t .columns) column row .rating)) ≡ false
+        Still (paramsDef w) (history t column) k row
     row-still row column c l =
-        still-unread (paramsDef w) (t .days) (t .ratings) (t .columns) column k row
-        (subst (λ (ks : List ℕ). among k ks ≡ false) (sym (reads-are (paramsDef w) (t .days) (t .ratings) (t .columns) column row _ _)) (row-unread row column c l))
+        still-unread (paramsDef w) (history t column) k row
+        (subst (λ (ks : List ℕ). among k ks ≡ false) (sym (reads-are (paramsDef w) (history t column) row _ _)) (row-unread row column c l))
 
     column-still : (column : ℕ) → column < t .columns → columnMoves w t column (steps column) (scored column) k ≡ false
     unfolding columnMoves
@@ -125,7 +125,7 @@ module _ (w : List Float) (t : Table) (steps : ℕ → ℕ) (scored : ℕ → Bo
   no-column = none-of _ (t .columns) none column c
 
   pub no-step : (row : ℕ) → row < steps column →
-      among k (slotsOf (recordAt (paramsDef w) (t .days) (t .ratings) (t .columns) column row .branch) (recordAt (paramsDef w) (t .days) (t .ratings) (t .columns) column row .rating)) ≡ false
+      Still (paramsDef w) (history t column) k row
   unfolding columnMoves
   no-step row l = none-of _ (steps column) (or-left _ _ no-column) row l
 
@@ -138,9 +138,9 @@ module _ (w v : List Float) (t u : Table) (steps steps′ : ℕ → ℕ) (scored
     (counts : (column : ℕ) → column < t .columns → steps column ≡ steps′ column) (ends : (column : ℕ) → column < t .columns → scored column ≡ scored′ column)
     (records :
     (row column : ℕ) → column < t .columns → row < steps column →
-    recordAt (paramsDef w) (t .days) (t .ratings) (t .columns) column row ≡ recordAt (paramsDef v) (u .days) (u .ratings) (u .columns) column row) (k : ℕ) where
+    recordAt (paramsDef w) (history t column) row ≡ recordAt (paramsDef v) (history u column) row) (k : ℕ) where
   abbrev moved : (w : List Float) (t : Table) (column row : ℕ) → Bool
-  moved w t column row = let c = recordAt (paramsDef w) (t .days) (t .ratings) (t .columns) column row in among k (slotsOf (c .branch) (c .rating))
+  moved w t column row = let c = recordAt (paramsDef w) (history t column) row in among k (slotsOf (c .branch) (c .rating))
 
   column-same : (column : ℕ) → column < t .columns → columnMoves w t column (steps column) (scored column) k ≡ columnMoves v u column (steps′ column) (scored′ column) k
   unfolding columnMoves

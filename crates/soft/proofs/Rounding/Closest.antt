@@ -73,4 +73,5 @@ near-go Ordering·gt w r u c h = (omega arith, omega arith)
 
 pub closest-near : (a u : ℕ) → 0 < u → (closest a u * u * 2 ≤ a * 2 + u) × (a * 2 ≤ closest a u * u * 2 + u)
 closest-near a u h =
-    subst (λ (x : ℕ). (closest a u * u * 2 ≤ x * 2 + u) × (x * 2 ≤ closest a u * u * 2 + u)) (div-add-mod' a u) (near-go (compare (a % u * 2) u) (a / u) (a % u) u (cmp (a % u * 2) u) (mod-lt a h))
+    subst (λ (x : ℕ). (closest a u * u * 2 ≤ x * 2 + u) × (x * 2 ≤ closest a u * u * 2 + u)) (div-add-mod' a u)
+    (near-go (compare (a % u * 2) u) (a / u) (a % u) u (cmp (a % u * 2) u) (mod-lt a h))

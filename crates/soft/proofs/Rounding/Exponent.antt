@@ -22,7 +22,8 @@ sub-minus a b = go (ltb a b) (leb b a) (ltb→lt a b) (nltb→le a b) (leb→le 
     clash : a < b → b ≤ a → ⊥
     clash h k = omega arith
 
-    go : (s t : Bool) → (T s → a < b) → (T (not s) → b ≤ a) → (T t → b ≤ a) → (T (not t) → a < b) → cond s (negsuc (b - suc a)) (pos (a - b)) ≡ cond t (pos (a - b)) (negsuc (b - suc a))
+    go : (s t : Bool) → (T s → a < b) → (T (not s) → b ≤ a) → (T t → b ≤ a) → (T (not t) → a < b)
+        → cond s (negsuc (b - suc a)) (pos (a - b)) ≡ cond t (pos (a - b)) (negsuc (b - suc a))
     go true true p q u v = absurd (clash (p tt) (u tt))
     go true false p q u v = refl
     go false true p q u v = refl

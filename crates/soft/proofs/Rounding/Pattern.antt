@@ -100,16 +100,21 @@ from-left-carry : (p k m : ℕ) → 2 ≤ p → p + k < p - 1 + m → suc (suc k
 from-left-carry p k m t h = omega arith
 
 pub under-end : (f : Format) (q k : ℕ) → Kept f q k → q * 2 ^ k < 2 ^ (low f + suc (emax f)) → k * hid f + q ≤ ones f * hid f
-under-end f q k (inl (a, inl e)) o = subst (λ (j : ℕ). j * hid f + q ≤ ones f * hid f) (sym e) (below-end (hid f) 0 q (emax f) (subst (λ (x : ℕ). q < x) (twice-hid f) a) (one-up f))
+under-end f q k (inl (a, inl e)) o = subst (λ (j : ℕ). j * hid f + q ≤ ones f * hid f) (sym e)
+    (below-end (hid f) 0 q (emax f) (subst (λ (x : ℕ). q < x) (twice-hid f) a) (one-up f))
 under-end f q k (inl (a, inr g)) o =
     below-end (hid f) k q (emax f) (subst (λ (x : ℕ). q < x) (twice-hid f) a)
     (from-left (prec f - 1) k (2 * emax f)
-    (pow-lt-back (prec f - 1 + k) (prec f - 1 + 2 * emax f) (subst (λ (x : ℕ). 2 ^ (prec f - 1 + k) < 2 ^ x) (reach f) (lt-of-le-of-lt (le-trans (le-of-eq (pow-add 2 (prec f - 1) k)) (mul-le-mul-right (2 ^ k) g)) o))))
+    (pow-lt-back (prec f - 1 + k) (prec f - 1 + 2 * emax f)
+    (subst (λ (x : ℕ). 2 ^ (prec f - 1 + k) < 2 ^ x) (reach f)
+    (lt-of-le-of-lt (le-trans (le-of-eq (pow-add 2 (prec f - 1) k)) (mul-le-mul-right (2 ^ k) g)) o))))
 under-end f q k (inr e) o =
     subst (λ (x : ℕ). k * hid f + x ≤ ones f * hid f) (sym (e ∙ twice-hid f))
     (below-end-carry (hid f) k (emax f)
     (from-left-carry (prec f) k (2 * emax f) (two f)
-    (pow-lt-back (prec f + k) (prec f - 1 + 2 * emax f) (subst (λ (x : ℕ). 2 ^ (prec f + k) < 2 ^ x) (reach f) (lt-of-le-of-lt (le-of-eq (pow-add 2 (prec f) k ∙ ap (λ (x : ℕ). x * 2 ^ k) (sym e))) o)))))
+    (pow-lt-back (prec f + k) (prec f - 1 + 2 * emax f)
+    (subst (λ (x : ℕ). 2 ^ (prec f + k) < 2 ^ x) (reach f)
+    (lt-of-le-of-lt (le-of-eq (pow-add 2 (prec f) k ∙ ap (λ (x : ℕ). x * 2 ^ k) (sym e))) o)))))
 
 over-more : (h k q E : ℕ) → h ≤ q → 2 * E ≤ k → (2 * E + 1) * h ≤ k * h + q
 over-more h k q E a b = let m : 2 * E * h ≤ k * h = mul-le-mul-right h b in omega arith
@@ -140,7 +145,8 @@ past-end f q k (inr e) o =
     subst (λ (x : ℕ). ones f * hid f ≤ k * hid f + x) (sym (e ∙ twice-hid f))
     (over-carry (hid f) k (emax f)
     (close (prec f) k (2 * emax f) (two f)
-    (pow-le-back (prec f - 1 + 2 * emax f) (prec f + k) (subst (λ (x : ℕ). 2 ^ x ≤ 2 ^ (prec f + k)) (reach f) (le-trans o (le-of-eq (ap (λ (x : ℕ). x * 2 ^ k) e ∙ sym (pow-add 2 (prec f) k))))))))
+    (pow-le-back (prec f - 1 + 2 * emax f) (prec f + k)
+    (subst (λ (x : ℕ). 2 ^ x ≤ 2 ^ (prec f + k)) (reach f) (le-trans o (le-of-eq (ap (λ (x : ℕ). x * 2 ^ k) e ∙ sym (pow-add 2 (prec f) k))))))))
 
 -- ---- `units` is read from the pattern
 min-left : (a b : ℕ) → a ≤ b → min a b ≡ a
@@ -160,7 +166,8 @@ units-over f s q k h = cond-no (ltb (q * 2 ^ k) (2 ^ (low f + suc (emax f)))) (o
 -- `round` at a fraction whose drop k and whose kept number q are known
 pub round-pattern : (f : Format) (s : Bool) (num den k q : ℕ) → size (num * 2 ^ low f / den) - prec f ≡ k → closest (num * 2 ^ low f) (den * 2 ^ k) ≡ q → Kept f q k
     → ofBits f (cond s (top f) 0 + min (k * hid f + q) (ones f * hid f)) ≡ round f s num den
-round-pattern f s num den k q d c h = go (ltb (q * 2 ^ k) (2 ^ (low f + suc (emax f)))) (ltb→lt (q * 2 ^ k) (2 ^ (low f + suc (emax f)))) (λ n. (nltb→le (q * 2 ^ k) (2 ^ (low f + suc (emax f))) n, units-over f s q k n))
+round-pattern f s num den k q d c h = go (ltb (q * 2 ^ k) (2 ^ (low f + suc (emax f)))) (ltb→lt (q * 2 ^ k) (2 ^ (low f + suc (emax f))))
+    (λ n. (nltb→le (q * 2 ^ k) (2 ^ (low f + suc (emax f))) n, units-over f s q k n))
   where
     is : round f s num den ≡ units f s q k
     is = round-is f s num den ∙ ap (λ (j : ℕ). core f s (num * 2 ^ low f) den j) d ∙ ap (λ (x : ℕ). units f s x k) c

@@ -6,7 +6,7 @@ use mathlib.Core.Logic.{_⊎_, inl, inr}
 use Prim.Native.Nat.{ℕ, zero, suc, _+_, _-_, _*_, _/_, _%_, _^_, _≤_, _<_, min, compare}
 use native.Mathlib.Nat.{add-comm, le-trans, le-of-eq, lt-of-le-of-lt, lt-of-lt-of-le, eq-or-lt-of-le, eq-zero-or-pos, mul-assoc, mul-comm, mul-left-comm, mul-le-mul-right, mul-pos, mul-div-mul-right, le-div-iff-mul-le, div-lt-iff-lt-mul, zero-mul}
 use native.Mathlib.Omega.{arith}
-use lib.Dec.{eqb, lit≤, eqb·suc-zero}
+use lib.Dec.{lit≤, eqb·suc-zero}
 use lib.IntN.{pos}
 use lib.Pow.{pow-pos, pow-add, pow-mono, shl-lt}
 use lib.Ieee.{Float, fin, Format, binary32, binary64, prec, emax, low, hid, ones, top, size, units, round, ofBits}
@@ -15,7 +15,7 @@ use lib.Ieee.Exact.{HasValue, units-val}
 use lib.Ieee.Fits.{two, nearest-le, core, round-is}
 use lib.Ieee.Nearest.{closest, closest-same, nearest-ge}
 use lib.Ieee.Scale.{round-same}
-use Rattle.soft.specs.Cuts.{normalised, patternOf, placedBits}
+use Rattle.soft.specs.inner.Pack.{normalised, patternOf, placedBits}
 use Rattle.soft.proofs.Rounding.Pattern.{Kept, exactly, pow-lt-back, round-pattern}
 
 -- t is where the normal range begins: an exponent of t or less drops no digit of the format's smallest value
@@ -55,7 +55,8 @@ module _ (f : Format) (g t v x : ℕ) (r : Range f g t) (lo : 2 ^ 62 ≤ v) (hi 
   at-least : 0 < x - t → 2 ^ (prec f - 1 + (x - t)) ≤ v * 2 ^ x / 2 ^ g
   at-least h =
       le-div-iff-mul-le (pow-pos g) .1
-      (le-trans (le-of-eq (sym (pow-add 2 (prec f - 1 + (x - t)) g) ∙ ap (λ (y : ℕ). 2 ^ y) (low-is x t g (prec f) (two f) (r .is) h) ∙ pow-add 2 62 x)) (mul-le-mul-right (2 ^ x) lo))
+      (le-trans (le-of-eq (sym (pow-add 2 (prec f - 1 + (x - t)) g) ∙ ap (λ (y : ℕ). 2 ^ y) (low-is x t g (prec f) (two f) (r .is) h)
+      ∙ pow-add 2 62 x)) (mul-le-mul-right (2 ^ x) lo))
 
   drop-is : size (v * 2 ^ x * 2 ^ low f / 2 ^ (low f + g)) - prec f ≡ x - t
   drop-is = ap (λ (y : ℕ). size y - prec f) whole ∙ go (eq-zero-or-pos (x - t))
@@ -65,7 +66,8 @@ module _ (f : Format) (g t v x : ℕ) (r : Range f g t) (lo : 2 ^ 62 ≤ v) (hi 
 
       go : ((x - t) ≡ 0) ⊎ (0 < x - t) → size (v * 2 ^ x / 2 ^ g) - prec f ≡ x - t
       go (inl e) = none (size (v * 2 ^ x / 2 ^ g)) (prec f) (subst (λ (k : ℕ). size (v * 2 ^ x / 2 ^ g) ≤ prec f + k) e up-to) ∙ sym e
-      go (inr h) = exactly (size (v * 2 ^ x / 2 ^ g)) (prec f) (x - t) (two f) up-to (pow-lt-back (prec f - 1 + (x - t)) (size (v * 2 ^ x / 2 ^ g)) (lt-of-le-of-lt (at-least h) (size-lt (v * 2 ^ x / 2 ^ g))))
+      go (inr h) = exactly (size (v * 2 ^ x / 2 ^ g)) (prec f) (x - t) (two f) up-to
+          (pow-lt-back (prec f - 1 + (x - t)) (size (v * 2 ^ x / 2 ^ g)) (lt-of-le-of-lt (at-least h) (size-lt (v * 2 ^ x / 2 ^ g))))
 
   -- the shift that the code makes
   abbrev d : ℕ
@@ -74,7 +76,9 @@ module _ (f : Format) (g t v x : ℕ) (r : Range f g t) (lo : 2 ^ 62 ≤ v) (hi 
   kept-is : closest (v * 2 ^ x * 2 ^ low f) (2 ^ (low f + g) * 2 ^ (x - t)) ≡ closest v (2 ^ d)
   kept-is =
       closest-same (v * 2 ^ x * 2 ^ low f) (2 ^ (low f + g) * 2 ^ (x - t)) v (2 ^ d) (mul-pos (pow-pos (low f + g)) (pow-pos (x - t))) (pow-pos d)
-      (join (2 ^ x) (2 ^ low f) (2 ^ d) (2 ^ g) (2 ^ (x - t)) (sym (pow-add 2 d x) ∙ ap (λ (y : ℕ). 2 ^ y) (shift-back x t g (prec f) (wide f) (r .is)) ∙ pow-add 2 g (x - t)) ∙ ap (λ (y : ℕ). v * (y * 2 ^ (x - t))) (sym (pow-add 2 (low f) g)))
+      (join (2 ^ x) (2 ^ low f) (2 ^ d) (2 ^ g) (2 ^ (x - t))
+      (sym (pow-add 2 d x) ∙ ap (λ (y : ℕ). 2 ^ y) (shift-back x t g (prec f) (wide f) (r .is)) ∙ pow-add 2 g (x - t))
+      ∙ ap (λ (y : ℕ). v * (y * 2 ^ (x - t))) (sym (pow-add 2 (low f) g)))
     where
       join : (a l b c k : ℕ) → b * a ≡ c * k → v * a * l * b ≡ v * (l * c * k)
       join a l b c k e = simp (mul-assoc, mul-comm, mul-left-comm) (simp (mul-assoc, mul-comm, mul-left-comm) at (ap (λ (y : ℕ). v * (l * y)) e))
@@ -101,10 +105,12 @@ module _ (f : Format) (g t v x : ℕ) (r : Range f g t) (lo : 2 ^ 62 ≤ v) (hi 
   placed s = round-pattern f s (v * 2 ^ x) (2 ^ (low f + g)) (x - t) (closest v (2 ^ d)) drop-is kept-is kept
 
   -- its value, where it stays below the format's end
-  pub placed-value : (s : Bool) → closest v (2 ^ d) * 2 ^ (x - t) < 2 ^ (low f + suc (emax f)) → HasValue (round f s (v * 2 ^ x) (2 ^ (low f + g))) s (closest v (2 ^ d) * 2 ^ (x - t)) (2 ^ low f)
+  pub placed-value : (s : Bool) → closest v (2 ^ d) * 2 ^ (x - t) < 2 ^ (low f + suc (emax f))
+      → HasValue (round f s (v * 2 ^ x) (2 ^ (low f + g))) s (closest v (2 ^ d) * 2 ^ (x - t)) (2 ^ low f)
   placed-value s h =
       subst (λ (y : Float). HasValue y s (closest v (2 ^ d) * 2 ^ (x - t)) (2 ^ low f))
-      (sym (round-is f s (v * 2 ^ x) (2 ^ (low f + g)) ∙ ap (λ (j : ℕ). core f s (v * 2 ^ x * 2 ^ low f) (2 ^ (low f + g)) j) drop-is ∙ ap (λ (y : ℕ). units f s y (x - t)) kept-is))
+      (sym (round-is f s (v * 2 ^ x) (2 ^ (low f + g)) ∙ ap (λ (j : ℕ). core f s (v * 2 ^ x * 2 ^ low f) (2 ^ (low f + g)) j) drop-is
+      ∙ ap (λ (y : ℕ). units f s y (x - t)) kept-is))
       (units-val f s (closest v (2 ^ d)) (x - t) h)
 
   pub kept-le : closest v (2 ^ d) ≤ 2 ^ prec f
@@ -136,7 +142,8 @@ size-pos v h = elim (eq-zero-or-pos (size v)) [ inl e ↦ absurd (none-below v h
 pub normalised-ge : (v : ℕ) → 0 < v → v < 2 ^ 63 → 2 ^ 62 ≤ normalised v
 normalised-ge v p h =
     let z = size v in
-    le-trans (le-of-eq (ap (λ (y : ℕ). 2 ^ y) (sym (sixty-two z (size-pos v p) (digits63 v h))) ∙ pow-add 2 (z - 1) (63 - z))) (mul-le-mul-right (2 ^ (63 - z)) (size-reaches v (z - 1) (pred-lt z (size-pos v p))))
+    le-trans (le-of-eq (ap (λ (y : ℕ). 2 ^ y) (sym (sixty-two z (size-pos v p) (digits63 v h))) ∙ pow-add 2 (z - 1) (63 - z)))
+    (mul-le-mul-right (2 ^ (63 - z)) (size-reaches v (z - 1) (pred-lt z (size-pos v p))))
 
 -- ±0
 zero-bits : (f : Format) (s : Bool) → round f s 0 1 ≡ ofBits f (cond s (top f) 0 + 0)
@@ -173,4 +180,5 @@ place f s g t w (suc u) x r h e =
     (ap (λ (y : ℕ). 2 ^ y) (sym e) ∙ pow-add 2 w 63 ∙ ap (λ (y : ℕ). 2 ^ w * y) (ap (λ (y : ℕ). 2 ^ y) (sym (back63 z (digits63 v h))) ∙ pow-add 2 (63 - z) z)))
   where
     join : (v n x z w xz l : ℕ) → xz ≡ x * z → l ≡ w * (n * z) → v * n * xz * w ≡ v * x * l
-    join v n x z w xz l a b = ap (λ (y : ℕ). v * n * y * w) a ∙ simp (mul-assoc, mul-comm, mul-left-comm) (simp (mul-assoc, mul-comm, mul-left-comm) at (ap (λ (y : ℕ). v * x * y) (sym b)))
+    join v n x z w xz l a b = ap (λ (y : ℕ). v * n * y * w) a
+        ∙ simp (mul-assoc, mul-comm, mul-left-comm) (simp (mul-assoc, mul-comm, mul-left-comm) at (ap (λ (y : ℕ). v * x * y) (sym b)))

@@ -28,7 +28,8 @@ up-go q n u p h l = half (q * p) (n * (p + 1)) (le-trans (le-of-eq (turn q p)) (
     sum n u p l = omega arith
 
 down-go : (q n u r : ℕ) → n * 2 ≤ q * 2 + u → u * (r + 1) ≤ n * 2 → n * r ≤ q * (r + 1)
-down-go q n u r h l = half (n * r) (q * (r + 1)) (cancel (n * r * 2) (q * (r + 1) * 2) (u * (r + 1)) (n * 2) (le-trans (le-of-eq (turn n r)) (le-trans (mul-le-mul-right (r + 1) h) (le-of-eq (spread q u (r + 1))))) l)
+down-go q n u r h l = half (n * r) (q * (r + 1)) (cancel (n * r * 2) (q * (r + 1) * 2) (u * (r + 1)) (n * 2)
+    (le-trans (le-of-eq (turn n r)) (le-trans (mul-le-mul-right (r + 1) h) (le-of-eq (spread q u (r + 1))))) l)
   where
     half : (x y : ℕ) → x * 2 ≤ y * 2 → x ≤ y
     half x y h = omega arith
@@ -58,7 +59,8 @@ module _ (f : Format) (s : Bool) (num den : ℕ) (d0 : 0 < den) (normal : prec f
   -- the unit times 2 ^ prec is at most twice the number
   unit : u * 2 ^ prec f ≤ n * 2
   unit =
-      le-trans (le-of-eq (ap (λ (x : ℕ). den * 2 ^ k * x) (ap (λ (x : ℕ). 2 ^ x) (sym (back (prec f) (two f))) ∙ pow-add 2 (prec f - 1) 1) ∙ turn den (2 ^ k) (2 ^ (prec f - 1)) ∙ ap (λ (x : ℕ). x * den * 2) (sym (pow-add 2 k (prec f - 1)))))
+      le-trans (le-of-eq (ap (λ (x : ℕ). den * 2 ^ k * x) (ap (λ (x : ℕ). 2 ^ x) (sym (back (prec f) (two f))) ∙ pow-add 2 (prec f - 1) 1)
+      ∙ turn den (2 ^ k) (2 ^ (prec f - 1)) ∙ ap (λ (x : ℕ). x * den * 2) (sym (pow-add 2 k (prec f - 1)))))
       (mul-le-mul-right 2 (le-div-iff-mul-le d0 .0 (size-reaches (n / den) (k + (prec f - 1)) (under (size (n / den)) (prec f) (two f) normal))))
     where
       back : (p : ℕ) → 2 ≤ p → p - 1 + 1 ≡ p
@@ -82,7 +84,9 @@ module _ (f : Format) (s : Bool) (num den : ℕ) (d0 : 0 < den) (normal : prec f
 
   pub kept-down : num * 2 ^ low f * (2 ^ prec f - 1) ≤ q * 2 ^ k * den * 2 ^ prec f
   kept-down =
-      le-trans (le-trans (down-go (q * u) n u (2 ^ prec f - 1) (near .1) (subst (λ (x : ℕ). u * x ≤ n * 2) (back (2 ^ prec f) (pow-pos (prec f))) unit)) (le-of-eq (ap (λ (x : ℕ). q * u * x) (sym (back (2 ^ prec f) (pow-pos (prec f)))))))
+      le-trans (le-trans (down-go (q * u) n u (2 ^ prec f - 1) (near .1)
+      (subst (λ (x : ℕ). u * x ≤ n * 2) (back (2 ^ prec f) (pow-pos (prec f))) unit))
+      (le-of-eq (ap (λ (x : ℕ). q * u * x) (sym (back (2 ^ prec f) (pow-pos (prec f)))))))
       (le-of-eq (ap (λ (x : ℕ). x * 2 ^ prec f) (sym (turn q (2 ^ k) den))))
     where
       back : (p : ℕ) → 0 < p → p ≡ p - 1 + 1

@@ -1,7 +1,7 @@
 -- A number that lies strictly between w and w + 1, in units of 2 ^ y, rounds as w and a half does, where w has more digits than the format keeps:
 -- of what was cut off, only "something is left" counts. So one bit, the sticky bit, stands for it. Assumes nothing.
 use mathlib.Core.Path.{_≡_, sym, ap, _∙_, subst}
-use mathlib.Core.Bool.{Bool, true, false, not, cond, _||_}
+use mathlib.Core.Bool.{Bool, true, false, not, cond}
 use mathlib.Core.Logic.{_⊎_, inl, inr}
 use Prim.Native.Nat.{ℕ, suc, _+_, _-_, _*_, _/_, _%_, _^_, _≤_, _<_, compare, Ordering, Ordering·lt, Ordering·gt}
 use native.Mathlib.Nat.{add-zero, le-trans, le-of-eq, le-of-lt, lt-of-lt-of-le, lt-of-le-of-lt, le-antisymm, le-of-suc-le-suc, lt-of-not-le, not-le-of-lt, lt-irrefl, mul-le-mul-left, mul-le-mul-right, mul-lt-mul-of-pos-right, lt-of-mul-lt-mul-right, mul-pos, mul-assoc, mul-comm, one-mul, div-add-mod', mod-lt, div-lt-iff-lt-mul, le-div-iff-mul-le, add-sub-of-le, sub-add-cancel}
@@ -15,7 +15,7 @@ use lib.Ieee.Fits.{core, round-is}
 use lib.Ieee.Nearest.{closest}
 use lib.Ieee.Scale.{round-same}
 use Rattle.soft.proofs.Rounding.Basics.{pos-of}
-use Rattle.soft.specs.Cuts.{Cut}
+use Rattle.soft.specs.inner.Cuts.{Cut}
 use Rattle.soft.proofs.Rounding.Closest.{cmp, is-lt, is-gt}
 
 -- ---- which way r and a bit of 2 h goes
@@ -109,7 +109,8 @@ gap-above w i j p h = go (leb j i) (leb→le j i) (nleb→lt j i)
 
         swap : (x y : ℕ) → x * 2 * y ≡ x * y * 2
         swap x y = omega arith
-    go false l g = absurd (lt-irrefl (2 ^ i) (lt-of-le-of-lt (pow-mono (le-of-lt (g tt))) (lt-of-le-of-lt (le-trans (le-of-eq (sym (one-mul (2 ^ j)))) (mul-le-mul-right (2 ^ j) p)) h)))
+    go false l g = absurd (lt-irrefl (2 ^ i) (lt-of-le-of-lt (pow-mono (le-of-lt (g tt)))
+        (lt-of-le-of-lt (le-trans (le-of-eq (sym (one-mul (2 ^ j)))) (mul-le-mul-right (2 ^ j) p)) h)))
 
 -- ---- at `round`
 room : (p l y u z : ℕ) → (u ≤ l + y → p + (l + y - u) < z) → (l + y < u → ⊥) ⊎ (l + y < u) → y + l + 1 ≤ u + (z - p)
@@ -171,7 +172,8 @@ module _ (f : Format) (s : Bool) (x w y u : ℕ) (lo : w * 2 ^ y < x) (hi : x < 
       div-lt-iff-lt-mul (pow-pos (u + 1)) .1 (lt-of-lt-of-le (subst (λ (z : ℕ). z < 2 ^ (j + u) * 2) (sym c-is) (gap-above w (j + u) (y + low f) w-pos k)) (le-of-eq (sym (den j))))
 
   same-size : size (a / 2 ^ u) ≡ size (c / 2 ^ (u + 1))
-  same-size = le-antisymm (size-le (a / 2 ^ u) (size (c / 2 ^ (u + 1))) (to-a (size (c / 2 ^ (u + 1))) (size-lt (c / 2 ^ (u + 1))))) (size-le (c / 2 ^ (u + 1)) (size (a / 2 ^ u)) (to-c (size (a / 2 ^ u)) (size-lt (a / 2 ^ u))))
+  same-size = le-antisymm (size-le (a / 2 ^ u) (size (c / 2 ^ (u + 1))) (to-a (size (c / 2 ^ (u + 1))) (size-lt (c / 2 ^ (u + 1)))))
+      (size-le (c / 2 ^ (u + 1)) (size (a / 2 ^ u)) (to-c (size (a / 2 ^ u)) (size-lt (a / 2 ^ u))))
 
   -- the digits that are dropped reach past the gap
   reaches : u ≤ low f + y → prec f + (low f + y - u) < size (a / 2 ^ u)
@@ -202,7 +204,8 @@ module _ (f : Format) (s : Bool) (x w y u : ℕ) (lo : w * 2 ^ y < x) (hi : x < 
   h = 2 ^ (u + k - (y + low f + 1))
 
   unit : 2 ^ u * 2 ^ k ≡ m * (h * 2)
-  unit = sym (pow-add 2 u k) ∙ ap (λ (z : ℕ). 2 ^ z) (sym (add-sub-of-le past)) ∙ pow-add 2 (y + low f + 1) (u + k - (y + low f + 1)) ∙ ap (λ (z : ℕ). z * h) (pow-add 2 (y + low f) 1) ∙ swap m h
+  unit = sym (pow-add 2 u k) ∙ ap (λ (z : ℕ). 2 ^ z) (sym (add-sub-of-le past)) ∙ pow-add 2 (y + low f + 1) (u + k - (y + low f + 1))
+      ∙ ap (λ (z : ℕ). z * h) (pow-add 2 (y + low f) 1) ∙ swap m h
     where
       swap : (m h : ℕ) → m * 2 * h ≡ m * (h * 2)
       swap m h = omega arith
@@ -216,7 +219,8 @@ module _ (f : Format) (s : Bool) (x w y u : ℕ) (lo : w * 2 ^ y < x) (hi : x < 
   pub sticky : round f s x (2 ^ u) ≡ round f s ((w * 2 + 1) * 2 ^ y) (2 ^ (u + 1))
   sticky =
       let q : closest a (2 ^ u * 2 ^ k) ≡ closest c (2 ^ (u + 1) * 2 ^ k) =
-      ap (closest a) unit ∙ same-gap a m c (m * 2) w h (pow-pos (y + low f)) (mul-pos (pow-pos (y + low f)) (pow-pos 1)) (pow-pos (u + k - (y + low f + 1))) a-lo a-hi c-lo c-hi ∙ ap (closest c) (sym unit-2) in
+      ap (closest a) unit ∙ same-gap a m c (m * 2) w h (pow-pos (y + low f)) (mul-pos (pow-pos (y + low f)) (pow-pos 1))
+      (pow-pos (u + k - (y + low f + 1))) a-lo a-hi c-lo c-hi ∙ ap (closest c) (sym unit-2) in
       round-is f s x (2 ^ u) ∙ ap (λ (z : ℕ). units f s z k) q
       ∙ ap (λ (j : ℕ). core f s c (2 ^ (u + 1)) (j - prec f)) same-size
       ∙ sym (round-is f s ((w * 2 + 1) * 2 ^ y) (2 ^ (u + 1)))
@@ -240,8 +244,8 @@ pub keeps : (f : Format) → 2 ^ prec f ≤ 2 ^ 60
 keeps binary32 = lit≤ tt
 keeps binary64 = lit≤ tt
 
--- ---- cut again, n digits higher: what is lost joins the bit
-module _ (x w y n : ℕ) where
+-- ---- w * 2 ^ y cut n digits higher: whether anything was lost is the bit
+module _ (w y n : ℕ) where
   abbrev q : ℕ
   q = w / 2 ^ n
 
@@ -251,20 +255,11 @@ module _ (x w y n : ℕ) where
   whole : q * 2 ^ n + w % 2 ^ n ≡ w
   whole = div-add-mod' w (2 ^ n)
 
-  next : w + 1 ≤ (q + 1) * 2 ^ n
+  next : w < (q + 1) * 2 ^ n
   next = step (2 ^ n) q (w % 2 ^ n) w whole (mod-lt w (pow-pos n))
     where
-      step : (p q r w : ℕ) → q * p + r ≡ w → r < p → w + 1 ≤ (q + 1) * p
+      step : (p q r w : ℕ) → q * p + r ≡ w → r < p → w < (q + 1) * p
       step p q r w e h = omega arith
-
-  below : x < (w + 1) * 2 ^ y → x < (q + 1) * 2 ^ (y + n)
-  below h = lt-of-lt-of-le h (le-trans (mul-le-mul-right (2 ^ y) next) (le-of-eq (sym (place (q + 1)))))
-
-  from : w * 2 ^ y < x → q * 2 ^ (y + n) < x
-  from h = lt-of-le-of-lt (le-trans (le-of-eq (place q)) (mul-le-mul-right (2 ^ y) (least (q * 2 ^ n) (w % 2 ^ n) w whole))) h
-    where
-      least : (a r w : ℕ) → a + r ≡ w → a ≤ w
-      least a r w e = omega arith
 
   over : (w % 2 ^ n ≡ 0 → ⊥) → q * 2 ^ n < w
   over h = more (q * 2 ^ n) (w % 2 ^ n) w whole (pos-of (w % 2 ^ n) h)
@@ -272,15 +267,11 @@ module _ (x w y n : ℕ) where
       more : (a r w : ℕ) → a + r ≡ w → 0 < r → a < w
       more a r w e h = omega arith
 
-  pub cut-again : (m k : ℕ) (b c : Bool) → Cut m x w y b → (T c → w % 2 ^ n ≡ 0) → (T (not c) → w % 2 ^ n ≡ 0 → ⊥) → (T (b || not c) → k ≤ q) → Cut k x q (y + n) (b || not c)
-  cut-again m k true c h z l g = (from (h .0), below (h .1), g tt)
-  cut-again m k false true e z l g =
-      e ∙ ap (λ (v : ℕ). v * 2 ^ y) (sym (sym (add-zero (q * 2 ^ n)) ∙ ap (λ (r : ℕ). q * 2 ^ n + r) (sym (z tt)) ∙ whole)) ∙ sym (place q)
-  cut-again m k false false e z l g = (
-    lt-of-le-of-lt (le-of-eq (place q)) (lt-of-lt-of-le (mul-lt-mul-of-pos-right (over (l tt)) (pow-pos y)) (le-of-eq (sym e))),
-    below (lt-of-le-of-lt (le-of-eq e) (mul-lt-mul-of-pos-right (one-more w) (pow-pos y))),
+  pub cut-at : (k : ℕ) (c : Bool) → (T c → w % 2 ^ n ≡ 0) → (T (not c) → w % 2 ^ n ≡ 0 → ⊥) → (T (not c) → k ≤ q) → Cut k (w * 2 ^ y) q (y + n) (not c)
+  cut-at k true z l g =
+      ap (λ (v : ℕ). v * 2 ^ y) (sym (sym (add-zero (q * 2 ^ n)) ∙ ap (λ (r : ℕ). q * 2 ^ n + r) (sym (z tt)) ∙ whole)) ∙ sym (place q)
+  cut-at k false z l g = (
+    lt-of-le-of-lt (le-of-eq (place q)) (mul-lt-mul-of-pos-right (over (l tt)) (pow-pos y)),
+    lt-of-lt-of-le (mul-lt-mul-of-pos-right next (pow-pos y)) (le-of-eq (sym (place (q + 1)))),
     g tt,
   )
-    where
-      one-more : (w : ℕ) → w < w + 1
-      one-more w = omega arith

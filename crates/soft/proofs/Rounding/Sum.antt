@@ -5,7 +5,7 @@ use Prim.Native.Nat.{ℕ, _+_, _-_, _*_, _<_}
 use native.Mathlib.Nat.{add-mul, mul-comm, mul-sub, lt-of-le-of-lt, lt-of-lt-of-le, le-of-eq, mul-lt-mul-of-pos-right, lt-of-mul-lt-mul-right}
 use lib.Dec.{T, ltb, ltb→lt, lt→ltb}
 use lib.Ieee.{Format, round, sum}
-use Rattle.soft.specs.Cuts.{sumSign, sumSize}
+use Rattle.soft.specs.inner.Cuts.{sumSign, sumSize}
 use lib.Ieee.Scale.{round-same}
 
 -- the sign and the size of ±a + ±b; a zero from unlike signs is positive
@@ -13,7 +13,8 @@ pub sum-is : (f : Format) (s : Bool) (a : ℕ) (t : Bool) (b c : ℕ) → sum f 
 unfolding sum sumSign sumSize
 sum-is f s a t b c = go (Bool·beq s t) (ltb a b)
   where
-    go : (p q : Bool) → cond p (round f s (a + b) c) (cond q (round f t (b - a) c) (round f (s && ltb b a) (a - b) c)) ≡ round f (cond p s (cond q t (s && ltb b a))) (cond p (a + b) (cond q (b - a) (a - b))) c
+    go : (p q : Bool) → cond p (round f s (a + b) c) (cond q (round f t (b - a) c) (round f (s && ltb b a) (a - b) c)) ≡ round f
+        (cond p s (cond q t (s && ltb b a))) (cond p (a + b) (cond q (b - a) (a - b))) c
     go true q = refl
     go false true = refl
     go false false = refl

@@ -9,12 +9,11 @@ use borrow.Author.Tests.{lt-ltb, le-ltb, ltb-true, ltb-false}
 use lib.Dec.{T, ltb, ltb→lt, nltb→le, eqb, eqb→eq, lit≤}
 use lib.Pow.{pow-pos, pow-add, pow-mono, shl-lt, add-lt-pow}
 use Rattle.soft.proofs.Rounding.Basics.{pos-of, not-eqb}
-use Rattle.soft.specs.Cuts.{Cut}
-use Rattle.soft.specs.Cuts.{sumSign, sumSize}
+use Rattle.soft.specs.inner.Cuts.{Cut, sumSign, sumSize}
 use Rattle.soft.specs.declared.wide.Wide.{Wide}
 use Rattle.soft.specs.Value.{valueOf}
 use Rattle.soft.specs.declared.fma.Sum.{Sum}
-use Rattle.soft.specs.FmaSteps.{Merged}
+use Rattle.soft.specs.inner.Fma.{Merged}
 
 -- a word alone
 pub low-word : (n : ℕ) → 0 * 2 ^ 64 + n ≡ n
@@ -70,7 +69,8 @@ module _ (p y b s r : ℕ) (c : Bool) (unit : p ≡ 2 ^ y) (small : r < p) (none
         where
           diff : (u b s r p : ℕ) → b ≡ s + u → r ≡ 0 → b * p - (s * p + r) ≡ (b - s - 0) * p
           diff u b s r p e z =
-              ap (λ (x : ℕ). x * p - (s * p + r)) e ∙ ap (λ (x : ℕ). (s + u) * p - (s * p + x)) z ∙ less s u p ∙ ap (λ (x : ℕ). x * p) (sym (ap (λ (x : ℕ). x - s - 0) e ∙ back s u))
+              ap (λ (x : ℕ). x * p - (s * p + r)) e ∙ ap (λ (x : ℕ). (s + u) * p - (s * p + x)) z ∙ less s u p
+              ∙ ap (λ (x : ℕ). x * p) (sym (ap (λ (x : ℕ). x - s - 0) e ∙ back s u))
             where
               less : (s u p : ℕ) → (s + u) * p - (s * p + 0) ≡ u * p
               less s u p = omega arith
@@ -130,7 +130,8 @@ module _ (p y b s r : ℕ) (c : Bool) (unit : p ≡ 2 ^ y) (small : r < p) (none
       let g : ltb (s * p + r) (b * p) ≡ true = lt-ltb (s * p + r) (b * p) (above h) in (
         sym (ap (λ (z : Bool). cond z j (cond (ltb (b * p) (s * p + r)) k (j && ltb (s * p + r) (b * p)))) n
             ∙ ap (λ (z : Bool). cond z k (j && ltb (s * p + r) (b * p))) f ∙ ap (λ (z : Bool). j && z) g ∙ and-true j),
-        subst (λ (z : Bool). Cut (2 ^ 64) (cond z (b * p + (s * p + r)) (cond (ltb (b * p) (s * p + r)) (s * p + r - b * p) (b * p - (s * p + r)))) (b - s - cond (not c) 1 0) y (not c)) (sym n)
+        subst (λ (z : Bool). Cut (2 ^ 64) (cond z (b * p + (s * p + r)) (cond (ltb (b * p) (s * p + r)) (s * p + r - b * p) (b * p - (s * p + r))))
+            (b - s - cond (not c) 1 0) y (not c)) (sym n)
             (subst (λ (z : Bool). Cut (2 ^ 64) (cond z (s * p + r - b * p) (b * p - (s * p + r))) (b - s - cond (not c) 1 0) y (not c)) (sym f) (taken h)),
       )
 
@@ -145,7 +146,8 @@ module _ (p y b s r : ℕ) (c : Bool) (unit : p ≡ 2 ^ y) (small : r < p) (none
       go : (t : Bool) → (T t → b < s) → (T (not t) → s ≤ b) → ((k && t) ≡ sumSign j (b * p) k (s * p + r)) × Cut (2 ^ 64) (sumSize j (b * p) k (s * p + r)) (s - b) y false
       go true l g =
           let f : ltb (b * p) (s * p + r) ≡ true = lt-ltb (b * p) (s * p + r) (lt-of-lt-of-le (mul-lt-mul-of-pos-right (l tt) (positive-unit unit)) (more (s * p) r)) in (
-            and-true k ∙ sym (ap (λ (z : Bool). cond z j (cond (ltb (b * p) (s * p + r)) k (j && ltb (s * p + r) (b * p)))) n ∙ ap (λ (z : Bool). cond z k (j && ltb (s * p + r) (b * p))) f),
+            and-true k ∙ sym (ap (λ (z : Bool). cond z j (cond (ltb (b * p) (s * p + r)) k (j && ltb (s * p + r) (b * p)))) n
+                ∙ ap (λ (z : Bool). cond z k (j && ltb (s * p + r) (b * p))) f),
             subst (λ (z : Bool). Cut (2 ^ 64) (cond z (b * p + (s * p + r)) (cond (ltb (b * p) (s * p + r)) (s * p + r - b * p) (b * p - (s * p + r)))) (s - b) y false) (sym n)
                 (subst (λ (z : Bool). Cut (2 ^ 64) (cond z (s * p + r - b * p) (b * p - (s * p + r))) (s - b) y false) (sym f) (left h)),
           )
@@ -160,9 +162,11 @@ module _ (p y b s r : ℕ) (c : Bool) (unit : p ≡ 2 ^ y) (small : r < p) (none
           let q : s * p + r ≡ b * p = ap (λ (x : ℕ). s * p + x) z ∙ add-zero (s * p) ∙ ap (λ (x : ℕ). x * p) (sym e) in
           let f : ltb (b * p) (s * p + r) ≡ false = le-ltb (b * p) (s * p + r) (le-of-eq q) in
           let f2 : ltb (s * p + r) (b * p) ≡ false = le-ltb (s * p + r) (b * p) (le-of-eq (sym q)) in (
-            and-false k ∙ sym (ap (λ (z : Bool). cond z j (cond (ltb (b * p) (s * p + r)) k (j && ltb (s * p + r) (b * p)))) n ∙ ap (λ (z : Bool). cond z k (j && ltb (s * p + r) (b * p))) f ∙ ap (λ (z : Bool). j && z) f2 ∙ and-false j),
+            and-false k ∙ sym (ap (λ (z : Bool). cond z j (cond (ltb (b * p) (s * p + r)) k (j && ltb (s * p + r) (b * p)))) n
+                ∙ ap (λ (z : Bool). cond z k (j && ltb (s * p + r) (b * p))) f ∙ ap (λ (z : Bool). j && z) f2 ∙ and-false j),
             subst (λ (z : Bool). Cut (2 ^ 64) (cond z (b * p + (s * p + r)) (cond (ltb (b * p) (s * p + r)) (s * p + r - b * p) (b * p - (s * p + r)))) (s - b) y false) (sym n)
-                (subst (λ (z : Bool). Cut (2 ^ 64) (cond z (s * p + r - b * p) (b * p - (s * p + r))) (s - b) y false) (sym f) (nothing (s * p + r) (b * p) (s - b) q (gone s b e))),
+                (subst (λ (z : Bool). Cut (2 ^ 64) (cond z (s * p + r - b * p) (b * p - (s * p + r))) (s - b) y false) (sym f)
+                (nothing (s * p + r) (b * p) (s - b) q (gone s b e))),
           )
         where
           gone : (s b : ℕ) → b ≡ s → s - b ≡ 0
@@ -191,7 +195,8 @@ module _ (v w d e : ℕ) (v-lo : 2 ^ 104 ≤ v) (v-hi : v < 2 ^ 106) (w-hi : w <
   pub small-is : w * 2 ^ (e - d) ≡ w / 2 ^ far * 2 ^ (e - room) + w % 2 ^ far * 2 ^ (e - d)
   small-is =
       ap (λ (x : ℕ). x * 2 ^ (e - d)) (sym (div-add-mod' w (2 ^ far))) ∙ add-mul (w / 2 ^ far * 2 ^ far) (w % 2 ^ far) (2 ^ (e - d))
-      ∙ ap (λ (x : ℕ). x + w % 2 ^ far * 2 ^ (e - d)) (mul-assoc (w / 2 ^ far) (2 ^ far) (2 ^ (e - d)) ∙ ap (λ (x : ℕ). w / 2 ^ far * x) (sym (pow-add 2 far (e - d)) ∙ ap (λ (x : ℕ). 2 ^ x) (join d e de)))
+      ∙ ap (λ (x : ℕ). x + w % 2 ^ far * 2 ^ (e - d)) (mul-assoc (w / 2 ^ far) (2 ^ far) (2 ^ (e - d))
+      ∙ ap (λ (x : ℕ). w / 2 ^ far * x) (sym (pow-add 2 far (e - d)) ∙ ap (λ (x : ℕ). 2 ^ x) (join d e de)))
     where
       join : (d e : ℕ) → d ≤ e → d - min d 20 + (e - d) ≡ e - min d 20
       join d e h = omega arith
@@ -219,7 +224,8 @@ module _ (v w d e : ℕ) (v-lo : 2 ^ 104 ≤ v) (v-hi : v < 2 ^ 106) (w-hi : w <
       go zero z = absurd (n (ap (λ (x : ℕ). w % 2 ^ x) z ∙ mod-one w))
       go (suc k) z = (
         le-trans (mul-le-mul-right (2 ^ 20) v-lo) (le-of-eq (ap (λ (x : ℕ). v * 2 ^ x) (sym (all d k z)))),
-        div-lt-iff-lt-mul (pow-pos far) .1 (lt-of-lt-of-le w-hi (le-trans (le-of-eq (sym (mul-comm 2 (2 ^ 105)))) (mul-le-mul-left (2 ^ 105) (pow-mono {i = 1} {j = far} (one far k z))))),
+        div-lt-iff-lt-mul (pow-pos far) .1 (lt-of-lt-of-le w-hi
+            (le-trans (le-of-eq (sym (mul-comm 2 (2 ^ 105)))) (mul-le-mul-left (2 ^ 105) (pow-mono {i = 1} {j = far} (one far k z))))),
       )
         where
           all : (d k : ℕ) → d - min d 20 ≡ suc k → min d 20 ≡ 20
@@ -236,7 +242,8 @@ module _ (v w d e : ℕ) (v-lo : 2 ^ 104 ≤ v) (v-hi : v < 2 ^ 106) (w-hi : w <
     where
       go : (a : ℕ) → (a ≡ 0 → ⊥) → a * 2 ^ (e - d) ≡ 0 → ⊥
       go zero n z = n refl
-      go (suc a) n z = lt-irrefl 0 (lt-of-lt-of-le (pow-pos (e - d)) (le-trans (le-of-eq (sym (one-mul (2 ^ (e - d))))) (le-trans (mul-le-mul-right (2 ^ (e - d)) (first a)) (le-of-eq z))))
+      go (suc a) n z = lt-irrefl 0 (lt-of-lt-of-le (pow-pos (e - d))
+          (le-trans (le-of-eq (sym (one-mul (2 ^ (e - d))))) (le-trans (mul-le-mul-right (2 ^ (e - d)) (first a)) (le-of-eq z))))
         where
           first : (a : ℕ) → 1 ≤ suc a
           first a = omega arith
@@ -295,14 +302,17 @@ module _ (v w d e : ℕ) (v-lo : 2 ^ 104 ≤ v) (v-hi : v < 2 ^ 106) (w-hi : w <
   below : (a c : ℕ) → a < 2 ^ 127 → a - c < 2 ^ 127
   below a c h = lt-of-le-of-lt (sub-le a c) h
 
-  at-like : (t : Bool) → Bool·beq j k ≡ true → Aligned r → t ≡ not (eqb (w % 2 ^ (d - r)) 0) → valueOf x ≡ (valueOf b + valueOf s) % 2 ^ 128 → Merged j (v * 2 ^ e) k (w * 2 ^ (e - d)) (answer j t r)
+  at-like : (t : Bool) → Bool·beq j k ≡ true → Aligned r → t ≡ not (eqb (w % 2 ^ (d - r)) 0) → valueOf x ≡ (valueOf b + valueOf s) % 2 ^ 128
+      → Merged j (v * 2 ^ e) k (w * 2 ^ (e - d)) (answer j t r)
   at-like t q h p g =
       merged j t (not (eqb (w % 2 ^ (d - r)) 0)) (v * 2 ^ r + w / 2 ^ (d - r)) p
       (g ∙ ap₂ (λ (m n : ℕ). (m + n) % 2 ^ 128) (big h) (h .1) ∙ sum-within (2 ^ 128) (v * 2 ^ r) (w / 2 ^ (d - r)) (lt-of-lt-of-le within (lit≤ tt))) within
-      (like (2 ^ (e - r)) (e - r) (v * 2 ^ r) (w / 2 ^ (d - r)) (w % 2 ^ (d - r) * 2 ^ (e - d)) (eqb (w % 2 ^ (d - r)) 0) refl (rest-lt v w d e v-lo v-hi w-hi de) (quiet v w d e v-lo v-hi w-hi de) (loud v w d e v-lo v-hi w-hi de) j k q)
+      (like (2 ^ (e - r)) (e - r) (v * 2 ^ r) (w / 2 ^ (d - r)) (w % 2 ^ (d - r) * 2 ^ (e - d)) (eqb (w % 2 ^ (d - r)) 0) refl
+      (rest-lt v w d e v-lo v-hi w-hi de) (quiet v w d e v-lo v-hi w-hi de) (loud v w d e v-lo v-hi w-hi de) j k q)
 
   at-larger : (t : Bool) (c f : Wide) (o : ℕ) → Bool·beq j k ≡ false → Aligned r → t ≡ not (eqb (w % 2 ^ (d - r)) 0) → ltb (valueOf s) (valueOf b) ≡ true → o ≡ cond t 1 0
-      → valueOf c ≡ o → valueOf f ≡ (valueOf b + (2 ^ 128 - valueOf s)) % 2 ^ 128 → valueOf x ≡ (valueOf f + (2 ^ 128 - valueOf c)) % 2 ^ 128 → Merged j (v * 2 ^ e) k (w * 2 ^ (e - d)) (answer j t r)
+      → valueOf c ≡ o → valueOf f ≡ (valueOf b + (2 ^ 128 - valueOf s)) % 2 ^ 128 → valueOf x ≡ (valueOf f + (2 ^ 128 - valueOf c)) % 2 ^ 128
+      → Merged j (v * 2 ^ e) k (w * 2 ^ (e - d)) (answer j t r)
   at-larger t c f o n h p l ob oc g i =
       let B = v * 2 ^ r in
       let S = w / 2 ^ (d - r) in
@@ -314,7 +324,8 @@ module _ (v w d e : ℕ) (v-lo : 2 ^ 104 ≤ v) (v-hi : v < 2 ^ 106) (w-hi : w <
       ∙ difference-within (2 ^ 128) (B - S) (cond (not (eqb (w % 2 ^ (d - r)) 0)) 1 0) (one (not (eqb (w % 2 ^ (d - r)) 0)) B S less) (lt-of-le-of-lt (cap B S) B-lt) in
       merged j t (not (eqb (w % 2 ^ (d - r)) 0)) (B - S - cond (not (eqb (w % 2 ^ (d - r)) 0)) 1 0) p xv
       (below (B - S) (cond (not (eqb (w % 2 ^ (d - r)) 0)) 1 0) (lt-of-le-of-lt (cap B S) (lt-of-lt-of-le (big-lt v w d e v-lo v-hi w-hi de) (lit≤ tt))))
-      (larger (2 ^ (e - r)) (e - r) B S (w % 2 ^ (d - r) * 2 ^ (e - d)) (eqb (w % 2 ^ (d - r)) 0) refl (rest-lt v w d e v-lo v-hi w-hi de) (quiet v w d e v-lo v-hi w-hi de) (loud v w d e v-lo v-hi w-hi de) j k n less)
+      (larger (2 ^ (e - r)) (e - r) B S (w % 2 ^ (d - r) * 2 ^ (e - d)) (eqb (w % 2 ^ (d - r)) 0) refl (rest-lt v w d e v-lo v-hi w-hi de)
+      (quiet v w d e v-lo v-hi w-hi de) (loud v w d e v-lo v-hi w-hi de) j k n less)
     where
       one : (t : Bool) (B S : ℕ) → S < B → cond t 1 0 ≤ B - S
       one true B S h = omega arith
@@ -330,23 +341,30 @@ module _ (v w d e : ℕ) (v-lo : 2 ^ 104 ≤ v) (v-hi : v < 2 ^ 106) (w-hi : w <
       let S = w / 2 ^ (d - r) in
       let le : B ≤ S = ltb-false S B (ap₂ ltb (sym (h .1)) (sym (big h)) ∙ l) in
       let S-lt : S < 2 ^ 128 = lt-of-lt-of-le (small-lt v w d e v-lo v-hi w-hi de) (lit≤ tt) in
-      let z = smaller (2 ^ (e - r)) (e - r) B S (w % 2 ^ (d - r) * 2 ^ (e - d)) (eqb (w % 2 ^ (d - r)) 0) refl (rest-lt v w d e v-lo v-hi w-hi de) (quiet v w d e v-lo v-hi w-hi de) (loud v w d e v-lo v-hi w-hi de) j k n le in
+      let z = smaller (2 ^ (e - r)) (e - r) B S (w % 2 ^ (d - r) * 2 ^ (e - d)) (eqb (w % 2 ^ (d - r)) 0) refl (rest-lt v w d e v-lo v-hi w-hi de)
+      (quiet v w d e v-lo v-hi w-hi de) (loud v w d e v-lo v-hi w-hi de) j k n le in
       merged i false false (S - B) refl
-      (g ∙ ap₂ (λ (f g : ℕ). (f + (2 ^ 128 - g)) % 2 ^ 128) (h .1) (big h) ∙ difference-within (2 ^ 128) S B le S-lt) (below S B (lt-of-lt-of-le (small-lt v w d e v-lo v-hi w-hi de) (lit≤ tt)))
+      (g ∙ ap₂ (λ (f g : ℕ). (f + (2 ^ 128 - g)) % 2 ^ 128) (h .1) (big h) ∙ difference-within (2 ^ 128) S B le S-lt)
+      (below S B (lt-of-lt-of-le (small-lt v w d e v-lo v-hi w-hi de) (lit≤ tt)))
       (q ∙ ap (λ (f : Bool). k && f) (p ∙ ap₂ ltb (big h) (h .1)) ∙ z .0, z .1)
 
   -- at whatever equals it
   pub like-merged : (room : ℕ) → room ≡ r → (t : Bool) → Bool·beq j k ≡ true → Aligned room → t ≡ not (eqb (w % 2 ^ (d - room)) 0) → valueOf x ≡ (valueOf b + valueOf s) % 2 ^ 128
       → Merged j (v * 2 ^ e) k (w * 2 ^ (e - d)) (answer j t room)
-  like-merged room q = subst (λ (n : ℕ). (t : Bool) → Bool·beq j k ≡ true → Aligned n → t ≡ not (eqb (w % 2 ^ (d - n)) 0) → valueOf x ≡ (valueOf b + valueOf s) % 2 ^ 128 → Merged j (v * 2 ^ e) k (w * 2 ^ (e - d)) (answer j t n)) (sym q) at-like
+  like-merged room q = subst (λ (n : ℕ). (t : Bool) → Bool·beq j k ≡ true → Aligned n → t ≡ not (eqb (w % 2 ^ (d - n)) 0)
+      → valueOf x ≡ (valueOf b + valueOf s) % 2 ^ 128 → Merged j (v * 2 ^ e) k (w * 2 ^ (e - d)) (answer j t n)) (sym q) at-like
 
-  pub larger-merged : (room : ℕ) → room ≡ r → (t : Bool) (c f : Wide) (o : ℕ) → Bool·beq j k ≡ false → Aligned room → t ≡ not (eqb (w % 2 ^ (d - room)) 0) → ltb (valueOf s) (valueOf b) ≡ true → o ≡ cond t 1 0
-      → valueOf c ≡ o → valueOf f ≡ (valueOf b + (2 ^ 128 - valueOf s)) % 2 ^ 128 → valueOf x ≡ (valueOf f + (2 ^ 128 - valueOf c)) % 2 ^ 128 → Merged j (v * 2 ^ e) k (w * 2 ^ (e - d)) (answer j t room)
+  pub larger-merged : (room : ℕ) → room ≡ r → (t : Bool) (c f : Wide) (o : ℕ) → Bool·beq j k ≡ false → Aligned room
+      → t ≡ not (eqb (w % 2 ^ (d - room)) 0) → ltb (valueOf s) (valueOf b) ≡ true → o ≡ cond t 1 0
+      → valueOf c ≡ o → valueOf f ≡ (valueOf b + (2 ^ 128 - valueOf s)) % 2 ^ 128 → valueOf x ≡ (valueOf f + (2 ^ 128 - valueOf c)) % 2 ^ 128
+      → Merged j (v * 2 ^ e) k (w * 2 ^ (e - d)) (answer j t room)
   larger-merged room q =
       subst (λ (n : ℕ). (t : Bool) (c f : Wide) (o : ℕ) → Bool·beq j k ≡ false → Aligned n → t ≡ not (eqb (w % 2 ^ (d - n)) 0) → ltb (valueOf s) (valueOf b) ≡ true → o ≡ cond t 1 0
-      → valueOf c ≡ o → valueOf f ≡ (valueOf b + (2 ^ 128 - valueOf s)) % 2 ^ 128 → valueOf x ≡ (valueOf f + (2 ^ 128 - valueOf c)) % 2 ^ 128 → Merged j (v * 2 ^ e) k (w * 2 ^ (e - d)) (answer j t n)) (sym q) at-larger
+      → valueOf c ≡ o → valueOf f ≡ (valueOf b + (2 ^ 128 - valueOf s)) % 2 ^ 128 → valueOf x ≡ (valueOf f + (2 ^ 128 - valueOf c)) % 2 ^ 128
+      → Merged j (v * 2 ^ e) k (w * 2 ^ (e - d)) (answer j t n)) (sym q) at-larger
 
-  pub smaller-merged : (room : ℕ) → room ≡ r → (i m : Bool) → Bool·beq j k ≡ false → Aligned room → ltb (valueOf s) (valueOf b) ≡ false → m ≡ ltb (valueOf b) (valueOf s) → i ≡ (k && m)
+  pub smaller-merged : (room : ℕ) → room ≡ r → (i m : Bool) → Bool·beq j k ≡ false → Aligned room → ltb (valueOf s) (valueOf b) ≡ false
+      → m ≡ ltb (valueOf b) (valueOf s) → i ≡ (k && m)
       → valueOf x ≡ (valueOf s + (2 ^ 128 - valueOf b)) % 2 ^ 128 → Merged j (v * 2 ^ e) k (w * 2 ^ (e - d)) (answer i false room)
   smaller-merged room q =
       subst (λ (n : ℕ). (i m : Bool) → Bool·beq j k ≡ false → Aligned n → ltb (valueOf s) (valueOf b) ≡ false → m ≡ ltb (valueOf b) (valueOf s) → i ≡ (k && m)

@@ -13,10 +13,10 @@ use lib.Ieee.Fits.{down-pos}
 use lib.Ieee.Scale.{finite}
 use Rattle.soft.proofs.Rounding.Place.{size-pos}
 use Rattle.soft.proofs.Rounding.Sum.{sum-same}
-use Rattle.soft.specs.Cuts.{sumSign, sumSize}
+use Rattle.soft.specs.inner.Cuts.{sumSign, sumSize}
 use Rattle.soft.specs.Fma.{times, plus, fmaDef}
 use Rattle.soft.specs.Units.{unitsDef}
-use Rattle.soft.specs.FmaSteps.{Full, Ready}
+use Rattle.soft.specs.inner.Fma.{Full, Ready}
 use Rattle.soft.proofs.units.Value.{measured, digits-lt, places-lt, digits-pos}
 use Rattle.soft.proofs.fma.Special.{zero-float, has-digits}
 
@@ -27,7 +27,7 @@ ready (inf s) h g n = absurd g
 ready (fin s zero e) h g n = absurd (has-digits s zero e n refl)
 ready (fin s (suc m) e) h g n = record {
   above = digits-pos binary64 s m e h;
-  below = digits-lt binary64 (fin s (suc m) e) h g;
+  below = digits-lt binary64 (fin s (suc m) e);
   near = lt-of-lt-of-le (places-lt binary64 (fin s (suc m) e) h g) (lit≤ tt);
 }
 
@@ -70,13 +70,15 @@ over-one f (fin s m e) (fin t n d) (inf u) p q r X Y Z h g k = absurd k
 over-one f (fin s m e) (fin t n d) (fin u l i) p q r X Y Z h g k =
     ap₂ (λ (a b : Bool). sum f (unlike a b) (m * up e * (n * up d) * down i) u (l * up i * (down e * down d)) (down e * down d * down i)) (h .0) (g .0)
     ∙ ap (λ (a : Bool). sum f (unlike p q) (m * up e * (n * up d) * down i) a (l * up i * (down e * down d)) (down e * down d * down i)) (k .0)
-    ∙ sum-same (down e * down d * down i) (2 ^ 2254) (mul-pos (mul-pos (down-pos e) (down-pos d)) (down-pos i)) (pow-pos 2254) f (unlike p q) (m * up e * (n * up d) * down i) (X * Y * 2 ^ 106) r (l * up i * (down e * down d)) (Z * 2 ^ 1180)
+    ∙ sum-same (down e * down d * down i) (2 ^ 2254) (mul-pos (mul-pos (down-pos e) (down-pos d)) (down-pos i)) (pow-pos 2254) f (unlike p q)
+    (m * up e * (n * up d) * down i) (X * Y * 2 ^ 106) r (l * up i * (down e * down d)) (Z * 2 ^ 1180)
     (product-over (m * up e) X (n * up d) Y (down i) (down e) (down d) (2 ^ 1074) (h .1) (g .1) (2 ^ 106) (2 ^ 2254) refl)
     (third-over (l * up i) Z (down i) (down e) (down d) (2 ^ 1074) (k .1) 0 (2 ^ 2254) (2 ^ 1180) refl)
 
 pub exact-sum : (f : Format) (x y z : Float) → T (fits binary64 x) → T (fits binary64 y) → T (fits binary64 z) → T (finite x) → T (finite y) → T (finite z)
     → fmaDef f x y z ≡ sum f (unlike (signOf x) (signOf y)) (sizeOf x * sizeOf y * 2 ^ 106) (signOf z) (sizeOf z * 2 ^ 1180) (2 ^ 2254)
-exact-sum f x y z a b c p q r = over-one f x y z (signOf x) (signOf y) (signOf z) (sizeOf x) (sizeOf y) (sizeOf z) (measured binary64 x a p) (measured binary64 y b q) (measured binary64 z c r)
+exact-sum f x y z a b c p q r = over-one f x y z (signOf x) (signOf y) (signOf z) (sizeOf x) (sizeOf y) (sizeOf z) (measured binary64 x a p)
+    (measured binary64 y b q) (measured binary64 z c r)
 
 -- ---- 53 digits
 pub fill : (d p z : ℕ) → 0 < d → d < 2 ^ 53 → p < 2 ^ 11 → z ≡ size d → Full d p (record { digits = d * 2 ^ (53 - z) % 2 ^ 64; places = p + z })
@@ -85,13 +87,15 @@ fill d p z a b c e = subst (λ (y : ℕ). Full d p (record { digits = d * 2 ^ (5
     made : (y : ℕ) → size d ≡ y → y ≤ 53 → 0 < y → Full d p (record { digits = d * 2 ^ (53 - y) % 2 ^ 64; places = p + y })
     made y e h g =
         let lt : d * 2 ^ (53 - y) < 2 ^ 53 = subst (λ (x : ℕ). d * 2 ^ (53 - y) < 2 ^ x) (join y h) (shl-lt y (53 - y) (subst (λ (x : ℕ). d < 2 ^ x) e (size-lt d))) in
-        let ge : 2 ^ 52 ≤ d * 2 ^ (53 - y) = le-trans (le-of-eq (ap (λ (x : ℕ). 2 ^ x) (sym (drop y h g)) ∙ pow-add 2 (y - 1) (53 - y))) (mul-le-mul-right (2 ^ (53 - y)) (size-reaches d (y - 1) (subst (λ (x : ℕ). y - 1 < x) (sym e) (pred y g)))) in
+        let ge : 2 ^ 52 ≤ d * 2 ^ (53 - y) = le-trans (le-of-eq (ap (λ (x : ℕ). 2 ^ x) (sym (drop y h g)) ∙ pow-add 2 (y - 1) (53 - y)))
+        (mul-le-mul-right (2 ^ (53 - y)) (size-reaches d (y - 1) (subst (λ (x : ℕ). y - 1 < x) (sym e) (pred y g)))) in
         let is : d * 2 ^ (53 - y) % 2 ^ 64 ≡ d * 2 ^ (53 - y) = mod-eq-of-lt (lt-of-lt-of-le lt (lit≤ tt)) in
         record {
           least = subst (λ (x : ℕ). 2 ^ 52 ≤ x) (sym is) ge;
           below = subst (λ (x : ℕ). x < 2 ^ 53) (sym is) lt;
           near = omega arith;
-          is = ap (λ (x : ℕ). x * 2 ^ (p + y)) is ∙ ap (λ (x : ℕ). d * 2 ^ (53 - y) * x) (pow-add 2 p y) ∙ turn d (2 ^ (53 - y)) (2 ^ p) (2 ^ y) ∙ ap (λ (x : ℕ). d * 2 ^ p * x) (sym (pow-add 2 y (53 - y)) ∙ ap (λ (x : ℕ). 2 ^ x) (join y h));
+          is = ap (λ (x : ℕ). x * 2 ^ (p + y)) is ∙ ap (λ (x : ℕ). d * 2 ^ (53 - y) * x) (pow-add 2 p y) ∙ turn d (2 ^ (53 - y)) (2 ^ p) (2 ^ y)
+              ∙ ap (λ (x : ℕ). d * 2 ^ p * x) (sym (pow-add 2 y (53 - y)) ∙ ap (λ (x : ℕ). 2 ^ x) (join y h));
         }
       where
         join : (y : ℕ) → y ≤ 53 → y + (53 - y) ≡ 53

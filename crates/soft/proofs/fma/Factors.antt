@@ -5,10 +5,10 @@ use Prim.Native.Nat.{ℕ, _+_, _-_, _*_, _^_, _≤_, _<_}
 use native.Mathlib.Nat.{le-of-lt, lt-of-le-of-lt, mul-le-mul, mul-le-mul-left, mul-lt-mul-of-pos-right, mul-assoc, mul-comm, mul-left-comm}
 use native.Mathlib.Omega.{arith}
 use lib.Pow.{pow-add, pow-pos}
-use Rattle.soft.specs.Cuts.{Cut}
+use Rattle.soft.specs.inner.Cuts.{Cut}
 use Rattle.soft.specs.declared.fma.Sum.{Sum}
 use Rattle.soft.specs.declared.pack.Scaled.{Scaled}
-use Rattle.soft.specs.FmaSteps.{Full, Merged}
+use Rattle.soft.specs.inner.Fma.{Full, Merged}
 use Rattle.soft.specs.Value.{valueOf}
 use Rattle.soft.proofs.fma.Exactly.{swap-sign, swap-size}
 
@@ -23,7 +23,8 @@ long a b n a-lo a-hi b-lo b-hi e = (
 )
 
 -- the product of two, and the third with 52 zeros after it, in units of 2 ^ -2254
-pub product-is : (dx px dy py : ℕ) (a b : Scaled) (n : ℕ) → Full dx px a → Full dy py b → n ≡ a .digits * b .digits → n * 2 ^ (a .places + b .places) ≡ dx * 2 ^ px * (dy * 2 ^ py) * 2 ^ 106
+pub product-is : (dx px dy py : ℕ) (a b : Scaled) (n : ℕ) → Full dx px a → Full dy py b → n ≡ a .digits * b .digits
+    → n * 2 ^ (a .places + b .places) ≡ dx * 2 ^ px * (dy * 2 ^ py) * 2 ^ 106
 product-is dx px dy py a b n f g e =
     ap (λ (x : ℕ). x * 2 ^ (a .places + b .places)) e ∙ ap (λ (x : ℕ). a .digits * b .digits * x) (pow-add 2 (a .places) (b .places))
     ∙ pair (a .digits) (b .digits) (2 ^ a .places) (2 ^ b .places)
@@ -70,4 +71,5 @@ module _ (s s' t : Bool) (v w pe qe A B : ℕ) (r : Sum) (sign : s ≡ s') (firs
   down h m = moved s s' (v * 2 ^ pe) A t (w * 2 ^ (pe - (pe - qe))) B r sign first (ap (λ (x : ℕ). w * 2 ^ x) (sub-back pe qe h) ∙ second) m
 
   pub up : pe < qe → Merged t (w * 2 ^ qe) s (v * 2 ^ (qe - (qe - pe))) r → Merged s' A t B r
-  up h m = moved s s' (v * 2 ^ (qe - (qe - pe))) A t (w * 2 ^ qe) B r sign (ap (λ (x : ℕ). v * 2 ^ x) (sub-back qe pe (le-of-lt h)) ∙ first) second (turned s (v * 2 ^ (qe - (qe - pe))) t (w * 2 ^ qe) r m)
+  up h m = moved s s' (v * 2 ^ (qe - (qe - pe))) A t (w * 2 ^ qe) B r sign (ap (λ (x : ℕ). v * 2 ^ x) (sub-back qe pe (le-of-lt h)) ∙ first) second
+      (turned s (v * 2 ^ (qe - (qe - pe))) t (w * 2 ^ qe) r m)

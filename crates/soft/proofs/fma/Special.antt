@@ -12,7 +12,7 @@ use lib.Ieee.Fits.{up-pos, down-pos}
 use lib.Ieee.Scale.{finite, round-same}
 use Rattle.soft.proofs.Rounding.Basics.{pos-of}
 use Rattle.soft.proofs.Rounding.Sum.{sum-is, sum-same}
-use Rattle.soft.specs.Cuts.{sumSign, sumSize}
+use Rattle.soft.specs.inner.Cuts.{sumSign, sumSize}
 use Rattle.soft.specs.Fma.{invalid, infinite, times, plus, fmaDef}
 
 -- ---- an infinity or a NaN among the factors
@@ -71,7 +71,8 @@ no-digits s m e h = no-product m e (eqb-true (m * up e * 1) (0 * 1 * down e) (le
 
 pub has-digits : (s : Bool) (m : ℕ) (e : ℤ) → eq (fin s m e) zero-float ≡ false → m ≡ 0 → ⊥
 unfolding eq
-has-digits s m e h z = true≢false (sym (ap (λ (x : ℕ). eqb x (0 * 1 * down e) && (Bool·beq s false || eqb x 0)) (ap (λ (x : ℕ). x * up e * 1) z ∙ ap (λ (x : ℕ). x * 1) (zero-mul (up e)))
+has-digits s m e h z = true≢false (sym (ap (λ (x : ℕ). eqb x (0 * 1 * down e) && (Bool·beq s false || eqb x 0))
+    (ap (λ (x : ℕ). x * up e * 1) z ∙ ap (λ (x : ℕ). x * 1) (zero-mul (up e)))
     ∙ ap (λ (x : ℕ). eqb 0 x && (Bool·beq s false || true)) (zero-mul (down e)) ∙ any s) ∙ h)
   where
     any : (s : Bool) → (Bool·beq s false || true) ≡ true
@@ -91,7 +92,8 @@ unfolding add
 none-plus f s a c t n d e h =
     ap (λ (x : Float). add f x (fin t n d)) (ap (λ (x : ℕ). round f s x c) e ∙ round-same f s 0 c 0 1 h (lit≤ tt) (zero-mul 1 ∙ sym (zero-mul c)) ∙ round-none f s)
     ∙ sum-same (1 * down d) (c * down d) (mul-pos (lit≤ tt) (down-pos d)) (mul-pos h (down-pos d)) f s (0 * 1 * down d) (a * down d) t (n * up d * 1) (n * up d * c)
-    (ap (λ (x : ℕ). x * (c * down d)) (zero-mul (down d)) ∙ zero-mul (c * down d) ∙ sym (ap (λ (x : ℕ). x * down d * (1 * down d)) e ∙ ap (λ (x : ℕ). x * (1 * down d)) (zero-mul (down d)) ∙ zero-mul (1 * down d)))
+    (ap (λ (x : ℕ). x * (c * down d)) (zero-mul (down d)) ∙ zero-mul (c * down d)
+    ∙ sym (ap (λ (x : ℕ). x * down d * (1 * down d)) e ∙ ap (λ (x : ℕ). x * (1 * down d)) (zero-mul (down d)) ∙ zero-mul (1 * down d)))
     (swap (n * up d) c (down d))
   where
     swap : (n c d : ℕ) → n * 1 * (c * d) ≡ n * c * (1 * d)
@@ -125,7 +127,8 @@ zero-right f (fin s m e) (fin t n d) (fin u l i) g h k q =
 alone : (s t : Bool) (a : ℕ) → 0 < a → (sumSign s a t 0 ≡ s) × (sumSize s a t 0 ≡ a)
 unfolding sumSign sumSize
 alone s t a h = (
-  ap (λ (x : Bool). cond (Bool·beq s t) s (cond x t (s && ltb 0 a))) (le-ltb a 0 (le-of-lt h)) ∙ ap (λ (x : Bool). cond (Bool·beq s t) s (s && x)) (lt-ltb 0 a h) ∙ keep (Bool·beq s t) s,
+  ap (λ (x : Bool). cond (Bool·beq s t) s (cond x t (s && ltb 0 a))) (le-ltb a 0 (le-of-lt h))
+      ∙ ap (λ (x : Bool). cond (Bool·beq s t) s (s && x)) (lt-ltb 0 a h) ∙ keep (Bool·beq s t) s,
   ap (λ (x : Bool). cond (Bool·beq s t) (a + 0) (cond x (0 - a) (a - 0))) (le-ltb a 0 (le-of-lt h)) ∙ whole (Bool·beq s t) a,
 )
   where
@@ -138,7 +141,8 @@ alone s t a h = (
     whole true a = add-zero a
     whole false a = omega arith
 
-pub zero-third : (f : Format) (x y z : Float) → finite x ≡ true → finite y ≡ true → finite z ≡ true → eq x zero-float ≡ false → eq y zero-float ≡ false → eq z zero-float ≡ true → mul f x y ≡ fmaDef f x y z
+pub zero-third : (f : Format) (x y z : Float) → finite x ≡ true → finite y ≡ true → finite z ≡ true → eq x zero-float ≡ false
+    → eq y zero-float ≡ false → eq z zero-float ≡ true → mul f x y ≡ fmaDef f x y z
 unfolding mul fmaDef times plus
 zero-third f nan y z g h k p q r = absurd (false≢true g)
 zero-third f (inf s) y z g h k p q r = absurd (false≢true g)
@@ -153,7 +157,8 @@ zero-third f (fin s m e) (fin t n d) (fin u l i) g h k p q r =
     let A : 0 < a = mul-pos (mul-pos (pos-of m (has-digits s m e p)) (up-pos e)) (mul-pos (pos-of n (has-digits t n d q)) (up-pos d)) in
     let o = alone (unlike s t) u (a * down i) (mul-pos A (down-pos i)) in
     round-same f (unlike s t) a c (a * down i) (c * down i) C (mul-pos C (down-pos i)) (swap a c (down i))
-    ∙ sym (ap (λ (y : ℕ). sum f (unlike s t) (a * down i) u y (c * down i)) (ap (λ (y : ℕ). y * up i * c) (no-digits u l i r) ∙ ap (λ (y : ℕ). y * c) (zero-mul (up i)) ∙ zero-mul c)
+    ∙ sym (ap (λ (y : ℕ). sum f (unlike s t) (a * down i) u y (c * down i))
+    (ap (λ (y : ℕ). y * up i * c) (no-digits u l i r) ∙ ap (λ (y : ℕ). y * c) (zero-mul (up i)) ∙ zero-mul c)
     ∙ sum-is f (unlike s t) (a * down i) u 0 (c * down i)
     ∙ ap (λ (b : Bool). round f b (sumSize (unlike s t) (a * down i) u 0) (c * down i)) (o .0)
     ∙ ap (λ (y : ℕ). round f (unlike s t) y (c * down i)) (o .1))

@@ -1,8 +1,9 @@
--- Half-way cases away from zero: how the whole part of a value and a half is computed, how large it is, and where a value is whole already. Assumes nothing.
-use mathlib.Core.Path.{_≡_, refl, sym, ap, _∙_, subst}
+-- Half-way cases away from zero: how the halves in a value are counted, what one more makes of them, and where a value is whole already.
+-- Assumes nothing.
+use mathlib.Core.Path.{_≡_, refl, sym, ap, _∙_}
 use mathlib.Core.Bool.{Bool, true, false, not, cond}
 use Prim.Native.Nat.{ℕ, zero, suc, _+_, _-_, _*_, _/_, _%_, _^_, _≤_, _<_, compare}
-use native.Mathlib.Nat.{le-trans, le-of-eq, lt-of-lt-of-le, lt-of-le-of-lt, le-of-lt, le-of-mul-le-mul-right, eq-of-mul-eq-mul-right, mul-assoc, mul-right-comm, mul-one, mul-pos, mul-le-mul-left, mul-le-mul-right, div-lt-iff-lt-mul, div-eq-of-lt, sub-add-cancel, le-of-suc-le-suc}
+use native.Mathlib.Nat.{le-trans, le-of-eq, lt-of-lt-of-le, lt-of-le-of-lt, le-of-lt, le-of-mul-le-mul-right, eq-of-mul-eq-mul-right, mul-assoc, mul-right-comm, mul-one, mul-pos, mul-le-mul-left, mul-le-mul-right, div-lt-iff-lt-mul, div-eq-of-lt, div-div-eq-div-mul, add-div-right, mul-div-mul-right, sub-add-cancel, le-of-suc-le-suc}
 use native.Mathlib.Omega.{arith}
 use lib.Dec.{T, lit≤, ltb, le→leb}
 use lib.IntN.{pos}
@@ -13,7 +14,6 @@ use lib.Ieee.Exact.{HasValue, round-exact}
 use lib.Ieee.Fits.{down-pos, two, round-fits, fits-widens}
 use lib.Ieee.Nearest.{div-same}
 use lib.Ieee.Scale.{finite}
-use Rattle.soft.proofs.Rounding.Basics.{twice-half}
 use Rattle.soft.proofs.Rounding.Pattern.{pow-lt-back}
 use Rattle.soft.specs.HalfAway.{halfAway, roundDef}
 use Rattle.soft.specs.Units.{unitsDef}
@@ -34,7 +34,7 @@ neg-units f s q k = go (ltb (q * 2 ^ k) (2 ^ (low f + suc (emax f))))
     go true = neg-odd (suc (prec f)) s q k (low f)
     go false = refl
 
-pub neg-round : (f : Format) (s : Bool) (a c : ℕ) → neg (round f s a c) ≡ round f (not s) a c
+neg-round : (f : Format) (s : Bool) (a c : ℕ) → neg (round f s a c) ≡ round f (not s) a c
 unfolding round
 neg-round f s a c =
     let n = a * 2 ^ low f in
@@ -42,45 +42,29 @@ neg-round f s a c =
     let u = c * 2 ^ k in
     neg-units f s (nearest (n / u) (compare (n % u * 2) u)) k
 
--- ---- the whole part of d * 2 ^ p / 2 ^ l and a half
-abbrev pub half : (d p l : ℕ) → ℕ
-half d p l = (d * 2 ^ p * 2 + 2 ^ l) / (2 ^ l * 2)
+-- ---- the halves in d * 2 ^ p / 2 ^ 1074
+module _ (d p : ℕ) where
+  -- as the code shifts them
+  pub by-shift : p < 1074 → d * 2 ^ p / 2 ^ 1073 ≡ d / 2 ^ (1073 - p)
+  by-shift h =
+      ap (λ (x : ℕ). d * 2 ^ p / x) (ap (λ (x : ℕ). 2 ^ x) (sym (sub-add-cancel (le-of-suc-le-suc h))) ∙ pow-add 2 (1073 - p) p)
+      ∙ mul-div-mul-right d (2 ^ (1073 - p)) (pow-pos p)
 
-module _ (d p l : ℕ) (h : p < l) where
-  apart : 0 < l - p
-  apart = omega arith
+  pub vanishes : p < 1074 → d < 2 ^ 53 → 63 < 1073 - p → d * 2 ^ p / 2 ^ 1073 ≡ 0
+  vanishes h k g = by-shift h ∙ div-eq-of-lt (lt-of-lt-of-le k (pow-mono {i = 53} (le-of-lt (lt-of-le-of-lt (lit≤ tt) g))))
 
-  halved : 2 ^ (l - p) ≡ 2 ^ (l - p - 1) * 2
-  halved = sym (twice-half (l - p) apart)
+  -- at most twice what the format f counts without a gap
+  halves-lt : (f : Format) → d < 2 ^ 53 → 53 + p ≤ prec f + 1 + 1073 → d * 2 ^ p / 2 ^ 1073 < 2 ^ (prec f + 1)
+  halves-lt f k g = div-lt-iff-lt-mul (pow-pos 1073) .1 (lt-of-lt-of-le (shl-lt 53 p k) (le-trans (pow-mono g) (le-of-eq (pow-add 2 (prec f + 1) 1073))))
 
-  -- as the code has it: a half is 1 in the place below 2 ^ (l - p)
-  pub by-shift : half d p l ≡ (d + 2 ^ (l - p - 1)) / 2 ^ (l - p)
-  by-shift =
-      div-same (d * 2 ^ p * 2 + 2 ^ l) (2 ^ l * 2) (d + 2 ^ (l - p - 1)) (2 ^ (l - p)) (mul-pos (pow-pos l) (pow-pos 1)) (pow-pos (l - p))
-      (ring (2 ^ p) (2 ^ l) (2 ^ (l - p)) (2 ^ (l - p - 1)) (ap (λ (x : ℕ). 2 ^ x) (sym (sub-add-cancel (le-of-lt h))) ∙ pow-add 2 (l - p) p) halved)
-    where
-      ring : (p l g h : ℕ) → l ≡ g * p → g ≡ h * 2 → (d * p * 2 + l) * g ≡ (d + h) * (l * 2)
-      ring p l g h a b = rw (a, b) (omega arith)
-
-  -- below a half
-  pub vanishes : d < 2 ^ (l - p - 1) → half d p l ≡ 0
-  vanishes k = by-shift ∙ div-eq-of-lt (lt-of-lt-of-le (twice (2 ^ (l - p - 1)) k) (le-of-eq (sym halved)))
-    where
-      twice : (g : ℕ) → d < g → d + g < g * 2
-      twice g k = omega arith
-
-  -- what a format counts without a gap
-  counted : (f : Format) → d < 2 ^ 53 → 53 ≤ prec f + (l - p) → T (inFloat f (pos (half d p l)))
-  unfolding inFloat
-  counted f k g =
-      le→leb (half d p l) (2 ^ prec f)
-      (le-of-suc-le-suc
-      (subst (λ (x : ℕ). x < suc (2 ^ prec f)) (sym by-shift)
-      (div-lt-iff-lt-mul (pow-pos (l - p)) .1
-      (more (2 ^ (l - p - 1)) (2 ^ (l - p)) (2 ^ prec f) (lt-of-lt-of-le k (le-trans (pow-mono g) (le-of-eq (pow-add 2 (prec f) (l - p))))) halved))))
-    where
-      more : (g w b : ℕ) → d < b * w → w ≡ g * 2 → d + g < suc b * w
-      more g w b k e = omega arith
+-- one more of them, cut to a whole number
+by-halves : (n k : ℕ) → 0 < k → (n / k + 1) / 2 ≡ (n * 2 + k * 2) / (k * 2 * 2)
+by-halves n k p =
+    ap (λ (x : ℕ). x / 2) (sym (add-div-right n p)) ∙ div-div-eq-div-mul (n + k) k 2
+    ∙ div-same (n + k) (k * 2) (n * 2 + k * 2) (k * 2 * 2) (mul-pos p (pow-pos 1)) (mul-pos (mul-pos p (pow-pos 1)) (pow-pos 1)) (ring n k)
+  where
+    ring : (n k : ℕ) → (n + k) * (k * 2 * 2) ≡ (n * 2 + k * 2) * (k * 2)
+    ring n k = omega arith
 
 -- ---- `halfAway` of a value that is n / c
 module _ (f : Format) (x : Float) (s : Bool) (n c : ℕ) (c0 : 0 < c) (v : HasValue x s n c) where
@@ -95,7 +79,8 @@ module _ (f : Format) (x : Float) (s : Bool) (n c : ℕ) (c0 : 0 < c) (v : HasVa
       go nan h = absurd h
       go (inf t) h = absurd h
       go (fin t m e) (g, h) =
-          ap (λ (z : ℕ). round f s z 1) (div-same (n * 2 + c) (c * 2) (m * up e * 2 + down e) (down e * 2) (mul-pos c0 (pow-pos 1)) (mul-pos (down-pos e) (pow-pos 1)) (ring (m * up e) (down e) h))
+          ap (λ (z : ℕ). round f s z 1) (div-same (n * 2 + c) (c * 2) (m * up e * 2 + down e) (down e * 2) (mul-pos c0 (pow-pos 1))
+          (mul-pos (down-pos e) (pow-pos 1)) (ring (m * up e) (down e) h))
           ∙ ap (λ (b : Bool). round f b (halfAway m e) 1) (sym g)
 
 -- ---- one value, two fractions
@@ -137,7 +122,8 @@ module _ (f : Format) (x : Float) (k : T (fits f x)) (h : T (finite x)) where
   self : (c : ℕ) → c * 2 ^ low f ≡ q * 2 ^ j → round f n c 1 ≡ x
   self c e =
       whole-unique f (round f n c 1) x n c (round-fits f n c 1) k
-      (round-exact f n c 1 q j (lit≤ tt) (digits-lt f x k h) (lt-of-lt-of-le (shl-lt (prec f) j (digits-lt f x k h)) (pow-mono (reach (prec f) (emax f) j (two f) (places-lt f x k h)))) one)
+      (round-exact f n c 1 q j (lit≤ tt) (digits-lt f x) (lt-of-lt-of-le (shl-lt (prec f) j (digits-lt f x))
+      (pow-mono (reach (prec f) (emax f) j (two f) (places-lt f x k h)))) one)
       (rescale x n (q * 2 ^ j) (2 ^ low f) (measured f x k h) c 1 (pow-pos (low f)) one)
     where
       one : c * 2 ^ low f ≡ q * 2 ^ j * 1
@@ -150,10 +136,11 @@ module _ (f : Format) (x : Float) (k : T (fits f x)) (h : T (finite x)) where
   large s a c c0 v g =
       let l = low f in
       let e : q * 2 ^ j * c ≡ a * 2 ^ l = cross x n (q * 2 ^ j) (2 ^ l) (measured f x k h) s a c v in
-      let b : hid f * 2 ^ l ≤ q * 2 ^ j = le-of-mul-le-mul-right (le-trans (le-of-eq (mul-right-comm (hid f) (2 ^ l) c)) (le-trans (mul-le-mul-right (2 ^ l) g) (le-of-eq (sym e)))) c0 in
+      let b : hid f * 2 ^ l ≤ q * 2 ^ j = le-of-mul-le-mul-right
+      (le-trans (le-of-eq (mul-right-comm (hid f) (2 ^ l) c)) (le-trans (mul-le-mul-right (2 ^ l) g) (le-of-eq (sym e)))) c0 in
       let i : l ≤ j =
       past (prec f) l j (two f)
-      (pow-lt-back (prec f - 1 + l) (prec f + j) (lt-of-le-of-lt (le-trans (le-of-eq (pow-add 2 (prec f - 1) l)) b) (shl-lt (prec f) j (digits-lt f x k h)))) in
+      (pow-lt-back (prec f - 1 + l) (prec f + j) (lt-of-le-of-lt (le-trans (le-of-eq (pow-add 2 (prec f - 1) l)) b) (shl-lt (prec f) j (digits-lt f x)))) in
       let w = q * 2 ^ (j - l) in
       let r : w * 2 ^ l ≡ q * 2 ^ j = mul-assoc q (2 ^ (j - l)) (2 ^ l) ∙ ap (λ (z : ℕ). q * z) (sym (pow-add 2 (j - l) l) ∙ ap (λ (z : ℕ). 2 ^ z) (sub-add-cancel i)) in
       sym (self w r) ∙ ap (λ (z : ℕ). round f n z 1) (whole w)
@@ -165,37 +152,51 @@ module _ (f : Format) (x : Float) (k : T (fits f x)) (h : T (finite x)) where
       whole : (w : ℕ) → w ≡ (w * 2 + 1) / (1 * 2)
       whole w = omega arith
 
--- ---- the four returns, of a double x that the format f holds, u being what `measure` gave
+-- ---- the four returns, of a double x that the format f holds, u being what `measure` gave and q the halves in it
+pub digits-small : (x : Float) (u : Units) → u ≡ unitsDef binary64 x → u .digits < 2 ^ 53
+digits-small x u e = rw e (digits-lt binary64 x)
+
+pub halves-small : (f : Format) (x : Float) (u : Units) (q : ℕ) → u ≡ unitsDef binary64 x → q ≡ u .digits * 2 ^ u .places / 2 ^ 1073
+    → 53 + u .places ≤ prec f + 1 + 1073 → q < 2 ^ (prec f + 1)
+halves-small f x u q e g l = rw g (halves-lt (u .digits) (u .places) f (digits-small x u e) l)
+
+pub countable : (f : Format) (q a : ℕ) → q < 2 ^ (prec f + 1) → a ≤ 1 → T (inFloat f (pos ((q + a) / 2)))
+unfolding inFloat
+countable f q a h l = le→leb ((q + a) / 2) (2 ^ prec f) (cut (2 ^ prec f) (lt-of-lt-of-le h (le-of-eq (pow-add 2 (prec f) 1))))
+  where
+    cut : (b : ℕ) → q < b * 2 → (q + a) / 2 ≤ b
+    cut b g = omega arith
+
 widens : (f : Format) (x : Float) → T (fits f x) → T (fits binary64 x)
 widens binary32 x h = fits-widens x h
 widens binary64 x h = h
 
 module _ (f : Format) (x : Float) (u : Units) (k : T (fits f x)) (h : T (finite x)) (e : u ≡ unitsDef binary64 x) where
-  value : HasValue x (u .negative) (u .digits * 2 ^ u .places) (2 ^ 1074)
+  abbrev units-of : ℕ
+  units-of = u .digits * 2 ^ u .places
+
+  value : HasValue x (u .negative) units-of (2 ^ 1074)
   value = rw e (measured binary64 x (widens f x k) h)
 
-  pub digits-small : u .digits < 2 ^ 53
-  digits-small = rw e (digits-lt binary64 x (widens f x k) h)
+  rounded : (q : ℕ) → q ≡ units-of / 2 ^ 1073 → (s : Bool) → u .negative ≡ s → round f s ((q + 1) / 2) 1 ≡ roundDef f x
+  rounded q g s i =
+      ap (λ (b : Bool). round f b ((q + 1) / 2) 1) (sym i)
+      ∙ ap (λ (z : ℕ). round f (u .negative) z 1) (ap (λ (z : ℕ). (z + 1) / 2) g ∙ by-halves units-of (2 ^ 1073) (pow-pos 1073))
+      ∙ of-value f x (u .negative) units-of (2 ^ 1074) (pow-pos 1074) value
 
-  rounded : round f (u .negative) (half (u .digits) (u .places) 1074) 1 ≡ roundDef f x
-  rounded = of-value f x (u .negative) (u .digits * 2 ^ u .places) (2 ^ 1074) (pow-pos 1074) value
-
-  pub countable : (r : ℕ) → r ≡ half (u .digits) (u .places) 1074 → u .places < 1074 → 53 ≤ prec f + (1074 - u .places) → T (inFloat f (pos r))
-  countable r q l g = rw q (counted (u .digits) (u .places) 1074 l f digits-small g)
-
-  pub when-positive : (r : ℕ) → r ≡ half (u .digits) (u .places) 1074 → u .negative ≡ false → ofInt f (pos r) ≡ roundDef f x
+  pub when-positive : (q : ℕ) → q ≡ units-of / 2 ^ 1073 → u .negative ≡ false → ofInt f (pos ((q + 1) / 2)) ≡ roundDef f x
   unfolding ofInt
-  when-positive r q g = ap (λ (z : ℕ). round f false z 1) q ∙ ap (λ (b : Bool). round f b (half (u .digits) (u .places) 1074) 1) (sym g) ∙ rounded
+  when-positive q g i = rounded q g false i
 
-  pub when-negative : (r : ℕ) → r ≡ half (u .digits) (u .places) 1074 → u .negative ≡ true → neg (ofInt f (pos r)) ≡ roundDef f x
+  pub when-negative : (q : ℕ) → q ≡ units-of / 2 ^ 1073 → u .negative ≡ true → neg (ofInt f (pos ((q + 1) / 2))) ≡ roundDef f x
   unfolding ofInt
-  when-negative r q g = neg-round f false r 1 ∙ ap (λ (z : ℕ). round f true z 1) q ∙ ap (λ (b : Bool). round f b (half (u .digits) (u .places) 1074) 1) (sym g) ∙ rounded
+  when-negative q g i = neg-round f false ((q + 1) / 2) 1 ∙ rounded q g true i
 
   -- from the places t on, where the digits weigh as much as the format's leading one
   pub when-whole : (t : ℕ) → 0 < t → hid f * 2 ^ 1074 ≤ 2 ^ 52 * 2 ^ t → t ≤ u .places → x ≡ roundDef f x
   when-whole t t0 w g =
-      large f x k h (u .negative) (u .digits * 2 ^ u .places) (2 ^ 1074) (pow-pos 1074) value
-      (le-trans w (le-trans (mul-le-mul-left (2 ^ 52) (pow-mono g)) (mul-le-mul-right (2 ^ u .places) (rw e (leading binary64 x (widens f x k) h (lt-of-lt-of-le t0 (rw e at g)))))))
+      large f x k h (u .negative) units-of (2 ^ 1074) (pow-pos 1074) value
+      (le-trans w (le-trans (mul-le-mul-left (2 ^ 52) (pow-mono g)) (mul-le-mul-right (2 ^ u .places) (rw e (leading binary64 x (lt-of-lt-of-le t0 (rw e at g)))))))
 
 pub when-endless : (f : Format) (x : Float) → finite x ≡ false → x ≡ roundDef f x
 unfolding roundDef

@@ -49,18 +49,9 @@ not-below (negsuc a) h = le→leb a 2253 (ltb-false 2253 a h)
 pub in-reach : (e : ℤ) → SFits w64 e → ltZ (toZ w64 (ofZ w64 e)) (negsuc 2253) ≡ false → T (leZ (negsuc 2253) (toZ w64 (ofZ w64 e)))
 in-reach e s h = not-below (toZ w64 (ofZ w64 e)) h
 
--- the fold adds 2 places at most, the first digits of two words 66
+-- the first digits of two words have 66 places at most
 pub wide-fits : (n p : ℕ) → n < 2 ^ 63 + 2254 → p ≤ 66 → n + p < 2 ^ 64
 wide-fits n p a b = omega arith
 
 pub wide-near : (n p : ℕ) → n < 2 ^ 63 + 2254 → p ≤ 66 → n + p < 2 ^ 63 + 2 ^ 12
 wide-near n p a b = omega arith
-
-more : (p : ℕ) → p ≤ 2 → p ≤ 66
-more p h = omega arith
-
-pub sum-fits : (n p : ℕ) → n < 2 ^ 63 + 2254 → p ≤ 2 → n + p < 2 ^ 64
-sum-fits n p a b = wide-fits n p a (more p b)
-
-pub sum-near : (n p : ℕ) → n < 2 ^ 63 + 2254 → p ≤ 2 → n + p < 2 ^ 63 + 2 ^ 12
-sum-near n p a b = wide-near n p a (more p b)

@@ -8,7 +8,7 @@ use lib.Dec.{T, eqb}
 use lib.Ieee.{Format, prec, low, hid, ones, top, size, round, ofBits, nanBits}
 use lib.Ieee.Nearest.{closest}
 use Rattle.soft.proofs.Rounding.Place.{place}
-use Rattle.soft.specs.Cuts.{normalised, placedBits}
+use Rattle.soft.specs.inner.Pack.{normalised, placedBits}
 use Rattle.soft.proofs.Rounding.Pattern.{pattern-not-nan}
 
 pub placed-le : (g t h o v x : ℕ) → placedBits g t h o v x ≤ o * h

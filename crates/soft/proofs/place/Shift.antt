@@ -11,7 +11,7 @@ use lib.Ieee.Fits.{nearest-le}
 use lib.Ieee.Nearest.{closest}
 use Rattle.soft.proofs.Rounding.Basics.{half-word, twice-half}
 use Rattle.soft.proofs.Rounding.Closest.{by-shift, too-small}
-use Rattle.soft.specs.Cuts.{normalised, patternOf, placedBits}
+use Rattle.soft.specs.inner.Pack.{normalised, patternOf, placedBits}
 
 pub half-le : (d : ℕ) → d < 64 → 2 ^ (d - 1) ≤ 2 ^ 62
 half-le d h = pow-mono {i = d - 1} {j = 62} (omega arith)

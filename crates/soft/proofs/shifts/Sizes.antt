@@ -11,7 +11,9 @@ use lib.Ieee.Digits.{size-lt, size-le, size-reaches}
 
 -- m digits: n is below 2 ^ m, and its double is not
 size-is : (n m : ℕ) → n < 2 ^ m → 2 ^ m ≤ 2 * n + 1 → size n ≡ m
-size-is n m f g = le-antisymm (size-le n m f) (le-of-suc-le-suc (lt-of-not-le (λ (h : suc (size n) ≤ m). clash (2 ^ size n) (size-lt n) (le-trans (subst (λ (x : ℕ). x ≤ 2 ^ m) (two-pow-succ (size n)) (pow-mono h)) g))))
+size-is n m f g = le-antisymm (size-le n m f) (le-of-suc-le-suc
+    (lt-of-not-le (λ (h : suc (size n) ≤ m). clash (2 ^ size n) (size-lt n)
+    (le-trans (subst (λ (x : ℕ). x ≤ 2 ^ m) (two-pow-succ (size n)) (pow-mono h)) g))))
   where
     clash : (p : ℕ) → n < p → p + p ≤ 2 * n + 1 → ⊥
     clash p a b = omega arith

@@ -87,9 +87,9 @@ doubled : (h t w : ℕ) (b : Bool) → w ≡ h * 2 → t < h → cond b t (h + t
 doubled h t w true e l = omega arith
 doubled h t w false e l = omega arith
 
-pub digits-lt : (f : Format) (x : Float) → T (fits f x) → T (finite x) → unitsDef f x .digits < 2 ^ prec f
+pub digits-lt : (f : Format) (x : Float) → unitsDef f x .digits < 2 ^ prec f
 unfolding splitDef
-digits-lt f x k h = doubled (hid f) (rest f x) (2 ^ prec f) (eqb (field f x) 0) (twice-hid f) (rest-in f x)
+digits-lt f x = doubled (hid f) (rest f x) (2 ^ prec f) (eqb (field f x) 0) (twice-hid f) (rest-in f x)
 
 less : (y e : ℕ) → 0 < e → y < 2 * e + 1 → y - 1 < 2 * e
 less y e a b = omega arith
@@ -107,9 +107,9 @@ led : (f : Format) (y t : ℕ) → 0 < y - 1 → hid f ≤ under f y t
 led f zero t h = absurd (lt-irrefl 0 h)
 led f (suc y) t h = rw under-suc (le-add-right (hid f) t)
 
-pub leading : (f : Format) (x : Float) → T (fits f x) → T (finite x) → 0 < unitsDef f x .places → hid f ≤ unitsDef f x .digits
+pub leading : (f : Format) (x : Float) → 0 < unitsDef f x .places → hid f ≤ unitsDef f x .digits
 unfolding splitDef under
-leading f x k h p = led f (field f x) (rest f x) p
+leading f x p = led f (field f x) (rest f x) p
 
 -- ---- of a float that is written out
 pub negative-is : (f : Format) (s : Bool) (m : ℕ) (e : ℤ) → T (fits f (fin s m e)) → unitsDef f (fin s m e) .negative ≡ s

@@ -1,5 +1,4 @@
--- What a number of two words says of its words: its bound, each word from the value, and that the value tells the words.
--- Assumes nothing.
+-- What a number of two words says of its words: its bound, and each word from the value. Assumes nothing.
 use mathlib.Core.Path.{_≡_, sym, ap, _∙_}
 use Prim.Native.Nat.{ℕ, _/_, _%_, _^_, _<_}
 use lib.Arith.{digits-lt, digits-div, digits-mod}
@@ -14,10 +13,3 @@ high-is w n l e = sym (digits-div (w .high) l) ∙ ap (λ (x : ℕ). x / 2 ^ 64)
 
 pub low-is : (w : Wide) (n : ℕ) → w .low < 2 ^ 64 → valueOf w ≡ n → w .low ≡ n % 2 ^ 64
 low-is w n l e = sym (digits-mod (w .high) l) ∙ ap (λ (x : ℕ). x % 2 ^ 64) e
-
--- so a contract that gives the value determines the answer
-pub same : (a b : Wide) → a .low < 2 ^ 64 → b .low < 2 ^ 64 → valueOf a ≡ valueOf b → a ≡ b
-same a b la lb e =
-    let p : a .high ≡ b .high = high-is a (valueOf b) la e ∙ digits-div (b .high) lb in
-    let q : a .low ≡ b .low = low-is a (valueOf b) la e ∙ digits-mod (b .high) lb in
-    λ i. record { high = p i; low = q i }

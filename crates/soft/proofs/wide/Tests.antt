@@ -27,7 +27,8 @@ same-eqb x m f g = go (eqb x 0) refl
 pub or-zero : (h l : ℕ) → not (eqb (bitOr h l) 0) ≡ not (eqb (h * 2 ^ 64 + l) 0)
 or-zero h l =
     ap not
-    (same-eqb (bitOr h l) (h * 2 ^ 64 + l) (λ e i. none (bitOr h l) (bitAnd h l) h l e (or-add-and h l) (and-le-r h l) i * 2 ^ 64 + none (bitOr h l) (bitAnd h l) l h e (or-add-and h l ∙ add-comm h l) (and-le-l h l) i)
+    (same-eqb (bitOr h l) (h * 2 ^ 64 + l) (λ e i. none (bitOr h l) (bitAnd h l) h l e (or-add-and h l) (and-le-r h l) i * 2 ^ 64 + none (bitOr h l)
+    (bitAnd h l) l h e (or-add-and h l ∙ add-comm h l) (and-le-l h l) i)
     (λ e. up (bitOr h l) (bitAnd h l) e (or-add-and h l)))
   where
     none : (o a x y : ℕ) → o ≡ 0 → o + a ≡ x + y → a ≤ y → x ≡ 0

@@ -1,4 +1,4 @@
--- E: Horner's rule in fixed point, each product cut to a whole number; and a change of the argument's unit.
+-- Horner's rule in fixed point, each product cut to a whole number; and a change of the argument's unit.
 use mathlib.Core.Path.{_≡_, refl}
 use mathlib.Core.List.{List, [], _∷_}
 use Prim.Native.Nat.{ℕ, zero, suc, _+_, _*_, _/_, _^_, _≤_, _<_}

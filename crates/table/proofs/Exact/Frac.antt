@@ -1,4 +1,4 @@
--- D: the polynomial at two fractions a / b and c / d
+-- The polynomial at two fractions a / b and c / d
 use mathlib.Core.Path.{_≡_, refl}
 use mathlib.Core.List.{List, [], _∷_}
 use Prim.Native.Nat.{ℕ, zero, suc, _+_, _*_, _^_, _≤_}
@@ -27,7 +27,8 @@ squares a b c d bK dK u v l m = omega (arith, mul-le-mul (mul-le-mul l l) m)
 
 -- P(a / b) - P(c / d) is at least the coefficient of x times a / b - c / d
 pub h-grow : (K x y : ℕ) (p : List ℕ) (a b c d : ℕ) → c * b ≤ a * d
-    → h (suc (suc K)) (x ∷ y ∷ p) c d * b ^ suc (suc K) + y * (a * d) * (b ^ suc K * d ^ suc K) ≤ h (suc (suc K)) (x ∷ y ∷ p) a b * d ^ suc (suc K) + y * (c * b) * (b ^ suc K * d ^ suc K)
+    → h (suc (suc K)) (x ∷ y ∷ p) c d * b ^ suc (suc K) + y * (a * d) * (b ^ suc K * d ^ suc K) ≤ h (suc (suc K)) (x ∷ y ∷ p) a b * d ^ suc
+    (suc K) + y * (c * b) * (b ^ suc K * d ^ suc K)
 unfolding h
 h-grow K x y p a b c d l =
     rw (pow-succ' b (suc K), pow-succ' d (suc K), pow-succ' b K, pow-succ' d K)

@@ -54,7 +54,15 @@ odds-is : (n a b : ℕ) → odds n a b ≡ h (deg n) (series n) a b
 unfolding odds series deg h
 odds-is zero a b = omega arith
 odds-is (suc n) a b =
-    rw (h-add (2 + deg n) (scale (2 * n + 3) (series n)) (mono (2 + deg n) (oddFact n)) a b, h-mono-is (2 + deg n) (oddFact n) a b, h-scale (2 + deg n) (2 * n + 3) (series n) a b, h-lift 2 (deg n) (series n) a b (fits-series n), ← odds-is n a b, deg-is n)
+    rw (
+      h-add (2 + deg n) (scale (2 * n + 3) (series n)) (mono (2 + deg n) (oddFact n)) a b,
+      h-mono-is (2 + deg n) (oddFact n) a b,
+      h-scale
+          (2 + deg n) (2 * n + 3) (series n) a b,
+      h-lift 2 (deg n) (series n) a b (fits-series n),
+      ← odds-is n a b,
+      deg-is n,
+    )
     (omega arith)
 
 same : scale (2 * dS) (series 23) ≡ scale (oddFact 23) scoef

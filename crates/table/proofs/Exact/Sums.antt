@@ -1,4 +1,4 @@
--- A: P(u) P(v) against P(u + v), for 0 ≤ u ≤ 7/10 and 0 ≤ v ≤ 1/256
+-- P(u) P(v) against P(u + v), for 0 ≤ u ≤ 7/10 and 0 ≤ v ≤ 1/256
 use mathlib.Core.Path.{_≡_}
 use mathlib.Core.List.{List}
 use Prim.Native.Nat.{ℕ, _+_, _*_, _^_, _≤_}

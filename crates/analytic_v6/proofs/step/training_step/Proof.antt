@@ -26,9 +26,14 @@ step-forward-requires c κs = search needs
 
 returns-2 : tie.Need-returns-2
 returns-2 c =
-    let e = c .before .before .before .before .before .before .before .step-refusal .ensures in
-    let h = c .before .before .before .before .before .before .if1 .left in
-    rw (c .before .before .step-forward .ensures, c .before .before .before .runtime-params .ensures, copied _ _ _ _ _ _ _ _ e h (c .before .before .before .before .before .copy-weights .ensures))
+    let at-step-forward = c .before .before in
+    let at-runtime-params = at-step-forward .before in
+    let at-copy-weights = at-runtime-params .before .before in
+    let at-if1 = at-copy-weights .before in
+    let at-step-refusal = at-if1 .before in
+    let e = at-step-refusal .step-refusal .ensures in
+    let h = at-if1 .if1 .left in
+    rw (at-step-forward .step-forward .ensures, at-runtime-params .runtime-params .ensures, copied _ _ _ _ _ _ _ _ e h (at-copy-weights .copy-weights .ensures))
     (step-accepted _ _ _ _ _ _ e h)
 
 pub training-step-spec : {M : Type 1} → statement M

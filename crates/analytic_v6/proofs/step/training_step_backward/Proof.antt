@@ -10,9 +10,10 @@ step-refusal-requires c κs = search needs
 returns : tie.Need-returns
 unfolding noReverse
 returns c =
+    let at-args = c .before .before .before .before in
     let e = c .before .step-refusal .ensures in
     let h = c .if1 .taken in
-    let gw = c .before .before .before .before .args .gw .now in
+    let gw = at-args .args .gw .now in
     (reverse-refused _ _ _ _ _ _ _ _ gw _ e h, slots-refused _ _ _ _ _ _ _ _ gw _ e h)
 
 copy-weights-requires : tie.Need-copy-weights-requires
@@ -32,13 +33,20 @@ same-length c = search needs
 
 returns-2 : tie.Need-returns-2
 returns-2 c =
-    let e = c .before .before .before .before .before .before .before .before .before .before .step-refusal .ensures in
-    let h = c .before .before .before .before .before .before .before .before .before .if1 .left in
-    let v = copied _ _ _ _ _ _ _ _ e h (c .before .before .before .before .before .before .before .before .copy-weights .ensures) in
-    let g = c .before .before .step-backward .ensures in
-    let gw = c .before .before .before .before .before .before .before .before .before .before .before .before .before .args .gw .now in (
-      rw (g .0, c .before .before .before .before .before .step-forward .ensures, c .before .before .before .before .before .before .runtime-params .ensures, v) (reverse-accepted _ _ _ _ _ _ _ _ gw _ e h),
-      rw (g .1, c .before .before .before .before .before .step-forward .ensures, c .before .before .before .before .before .before .runtime-params .ensures, v) (slots-accepted _ _ _ _ _ _ _ _ gw _ e h),
+    let at-step-backward = c .before .before in
+    let at-step-forward = at-step-backward .before .before .before in
+    let at-runtime-params = at-step-forward .before in
+    let at-copy-weights = at-runtime-params .before .before in
+    let at-if1 = at-copy-weights .before in
+    let at-step-refusal = at-if1 .before in
+    let at-args = at-step-refusal .before .before .before in
+    let e = at-step-refusal .step-refusal .ensures in
+    let h = at-if1 .if1 .left in
+    let v = copied _ _ _ _ _ _ _ _ e h (at-copy-weights .copy-weights .ensures) in
+    let g = at-step-backward .step-backward .ensures in
+    let gw = at-args .args .gw .now in (
+      rw (g .0, at-step-forward .step-forward .ensures, at-runtime-params .runtime-params .ensures, v) (reverse-accepted _ _ _ _ _ _ _ _ gw _ e h),
+      rw (g .1, at-step-forward .step-forward .ensures, at-runtime-params .runtime-params .ensures, v) (slots-accepted _ _ _ _ _ _ _ _ gw _ e h),
     )
 
 pub training-step-backward-spec : {M : Type 1} → statement M

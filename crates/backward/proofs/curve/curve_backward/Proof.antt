@@ -27,10 +27,12 @@ same-length c = search needs
 
 returns-2 : tie.Need-returns-2
 unfolding curveBack curveSlots
-returns-2 c = (
-  rw (c .before .before .before .before .before .before .before .if1 .left, c .curve-grad .ensures, c .before .before .before .before .before .before .widened .ensures),
-  rw (c .before .before .before .before .before .before .before .if1 .left, c .before .before .before .add .ensures, c .before .before .before .before .curve-slot .ensures, c .before .before .before .before .before .before .widened .ensures),
-)
+returns-2 c =
+    let at-add = c .before .before .before in
+    let at-widened = at-add .before .before .before in (
+      rw (at-widened .before .if1 .left, c .curve-grad .ensures, at-widened .widened .ensures),
+      rw (at-widened .before .if1 .left, at-add .add .ensures, at-add .before .curve-slot .ensures, at-widened .widened .ensures),
+    )
 
 pub curve-backward-spec : {M : Type 1} → statement M
 curve-backward-spec =

@@ -24,7 +24,15 @@ f32-to-f64-with-nan-requires-6 c κs = search needs
 returns : tie.Need-returns
 unfolding widenedDef
 returns c =
-    rw (c .f32-to-f64-with-nan6 .ensures, c .before .f32-to-f64-with-nan5 .ensures, c .before .before .f32-to-f64-with-nan4 .ensures, c .before .before .before .f32-to-f64-with-nan3 .ensures, c .before .before .before .before .f32-to-f64-with-nan2 .ensures, c .before .before .before .before .before .f32-to-f64-with-nan .ensures)
+    let at-wide3 = c .before .before .before in
+    rw (
+      c .f32-to-f64-with-nan6 .ensures,
+      c .before .f32-to-f64-with-nan5 .ensures,
+      c .before .before .f32-to-f64-with-nan4 .ensures,
+      at-wide3 .f32-to-f64-with-nan3 .ensures,
+      at-wide3 .before .f32-to-f64-with-nan2 .ensures,
+      at-wide3 .before .before .f32-to-f64-with-nan .ensures,
+    )
 
 pub widened-spec : {M : Type 1} → statement M
 widened-spec =

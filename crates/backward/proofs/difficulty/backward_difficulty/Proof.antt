@@ -40,10 +40,24 @@ same-length c = search needs
 
 returns-3 : tie.Need-returns-3
 unfolding difficultyBack difficultyMoved
-returns-3 c = (
-  rw (c .before .before .before .before .before .before .before .before .before .if1 .left, ← c .before .before .before .before .before .before .before .before .mean-grad .ensures, c .before .before .before .before .before .before .before .if2 .left, c .difficulty-grad .ensures, c .before .before .before .before .before .difficulty-parts .ensures),
-  rw (c .before .before .before .before .before .before .before .before .before .if1 .left, ← c .before .before .before .before .before .before .before .before .mean-grad .ensures, c .before .before .before .before .before .before .before .if2 .left, c .before .before .before .difficulty-slots .ensures, c .before .before .before .before .before .difficulty-parts .ensures),
-)
+returns-3 c =
+    let at-difficulty-slots = c .before .before .before in
+    let at-if2 = at-difficulty-slots .before .before .before .before in (
+      rw (
+        at-if2 .before .before .if1 .left,
+        ← at-if2 .before .mean-grad .ensures,
+        at-if2 .if2 .left,
+        c .difficulty-grad .ensures,
+        at-difficulty-slots .before .before .difficulty-parts .ensures,
+      ),
+      rw (
+        at-if2 .before .before .if1 .left,
+        ← at-if2 .before .mean-grad .ensures,
+        at-if2 .if2 .left,
+        at-difficulty-slots .difficulty-slots .ensures,
+        at-difficulty-slots .before .before .difficulty-parts .ensures,
+      ),
+    )
 
 pub backward-difficulty-spec : {M : Type 1} → statement M
 backward-difficulty-spec =

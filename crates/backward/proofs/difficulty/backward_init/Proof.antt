@@ -24,7 +24,16 @@ same-length c = search needs
 returns : tie.Need-returns
 unfolding initMoved
 returns c =
-    rw (← c .before .before .before .before .before .before .init-difficulty .ensures, ← c .before .before .before .before .before .mean-grad .ensures, c .before .before .before .before .if1 .taken, c .before .before .init-slots .ensures, c .before .before .before .before .before .before .before .before .before .add .ensures, c .before .before .before .before .before .before .before .before .before .before .before .slot-of .ensures)
+    let at-if1 = c .before .before .before .before in
+    let at-add = at-if1 .before .before .before .before .before in
+    rw (
+      ← at-if1 .before .before .init-difficulty .ensures,
+      ← at-if1 .before .mean-grad .ensures,
+      at-if1 .if1 .taken,
+      c .before .before .init-slots .ensures,
+      at-add .add .ensures,
+      at-add .before .before .slot-of .ensures,
+    )
 
 same-length-2 : tie.Need-same-length-2
 same-length-2 c = search needs
@@ -32,7 +41,14 @@ same-length-2 c = search needs
 returns-2 : tie.Need-returns-2
 unfolding initMoved
 returns-2 c =
-    rw (← c .before .before .init-difficulty .ensures, ← c .before .mean-grad .ensures, c .if1 .left, c .before .before .before .before .before .add .ensures, c .before .before .before .before .before .before .before .slot-of .ensures)
+    let at-add = c .before .before .before .before .before in
+    rw (
+      ← c .before .before .init-difficulty .ensures,
+      ← c .before .mean-grad .ensures,
+      c .if1 .left,
+      at-add .add .ensures,
+      at-add .before .before .slot-of .ensures,
+    )
 
 pub backward-init-spec : {M : Type 1} → statement M
 backward-init-spec =

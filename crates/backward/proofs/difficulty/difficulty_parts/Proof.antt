@@ -18,7 +18,12 @@ f32-to-f64-with-nan-requires-4 c κs = search needs
 returns : tie.Need-returns
 unfolding difficultyParts
 returns c =
-    rw (c .f32-to-f64-with-nan4 .ensures, c .before .f32-to-f64-with-nan3 .ensures, c .before .before .f32-to-f64-with-nan2 .ensures, c .before .before .before .f32-to-f64-with-nan .ensures)
+    rw (
+      c .f32-to-f64-with-nan4 .ensures,
+      c .before .f32-to-f64-with-nan3 .ensures,
+      c .before .before .f32-to-f64-with-nan2 .ensures,
+      c .before .before .before .f32-to-f64-with-nan .ensures,
+    )
 
 pub difficulty-parts-spec : {M : Type 1} → statement M
 difficulty-parts-spec =

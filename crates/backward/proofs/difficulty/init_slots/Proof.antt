@@ -27,7 +27,16 @@ same-length c = search needs
 returns : tie.Need-returns
 unfolding initSlots
 returns c =
-    rw (c .before .before .add2 .ensures, c .before .before .before .before .before .before .add .ensures, c .before .before .before .before .before .before .before .before .exp-f64 .ensures, c .before .before .before .before .before .before .before .before .before .f32-to-f64-with-nan2 .ensures, c .before .before .before .before .before .before .before .before .before .before .f32-to-f64-with-nan .ensures, c .before .before .before .before .before .before .before .before .before .before .before .rating-offset .ensures)
+    let at-add = c .before .before .before .before .before .before in
+    let at-wide2 = at-add .before .before .before in
+    rw (
+      c .before .before .add2 .ensures,
+      at-add .add .ensures,
+      at-add .before .before .exp-f64 .ensures,
+      at-wide2 .f32-to-f64-with-nan2 .ensures,
+      at-wide2 .before .f32-to-f64-with-nan .ensures,
+      at-wide2 .before .before .rating-offset .ensures,
+    )
 
 pub init-slots-spec : {M : Type 1} → statement M
 init-slots-spec =

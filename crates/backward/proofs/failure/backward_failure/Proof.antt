@@ -27,10 +27,11 @@ same-length c = search needs
 
 returns-2 : tie.Need-returns-2
 unfolding failureBack failureMoved
-returns-2 c = (
-  rw (c .before .before .before .before .before .before .if1 .left, c .before .before .before .before .if2 .taken, c .before .before .backward-floor .ensures .0),
-  rw (c .before .before .before .before .before .before .if1 .left, c .before .before .before .before .if2 .taken, c .before .before .backward-floor .ensures .1),
-)
+returns-2 c =
+    let at-if2 = c .before .before .before .before in (
+      rw (at-if2 .before .before .if1 .left, at-if2 .if2 .taken, c .before .before .backward-floor .ensures .0),
+      rw (at-if2 .before .before .if1 .left, at-if2 .if2 .taken, c .before .before .backward-floor .ensures .1),
+    )
 
 array-read-backward-raw : tie.Need-array-read-backward-raw
 array-read-backward-raw c = search needs
@@ -52,10 +53,11 @@ same-length-2 c = search needs
 
 returns-3 : tie.Need-returns-3
 unfolding failureBack failureMoved
-returns-3 c = (
-  rw (c .before .before .before .before .before .before .if1 .left, c .before .before .before .before .if2 .left, c .before .before .backward-raw .ensures .0),
-  rw (c .before .before .before .before .before .before .if1 .left, c .before .before .before .before .if2 .left, c .before .before .backward-raw .ensures .1),
-)
+returns-3 c =
+    let at-if2 = c .before .before .before .before in (
+      rw (at-if2 .before .before .if1 .left, at-if2 .if2 .left, c .before .before .backward-raw .ensures .0),
+      rw (at-if2 .before .before .if1 .left, at-if2 .if2 .left, c .before .before .backward-raw .ensures .1),
+    )
 
 pub backward-failure-spec : {M : Type 1} → statement M
 backward-failure-spec =

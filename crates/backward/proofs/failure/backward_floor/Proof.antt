@@ -26,10 +26,18 @@ same-length c = search needs
 
 returns : tie.Need-returns
 unfolding floorGrads floorSlots
-returns c = (
-  rw (c .before .before .before .before .before .before .before .before .before .before .f32-to-f64-with-nan2 .ensures, c .before .before .before .before .before .before .before .before .before .before .before .f32-to-f64-with-nan .ensures),
-  rw (c .before .before .add2 .ensures, c .before .before .before .before .before .before .add .ensures, c .before .before .before .before .before .before .before .before .before .before .f32-to-f64-with-nan2 .ensures, c .before .before .before .before .before .before .before .before .before .f32-to-f64-with-nan3 .ensures, c .before .before .before .before .before .before .before .before .f32-to-f64-with-nan4 .ensures),
-)
+returns c =
+    let at-add = c .before .before .before .before .before .before in
+    let at-wide3 = at-add .before .before .before in (
+      rw (at-wide3 .before .f32-to-f64-with-nan2 .ensures, at-wide3 .before .before .f32-to-f64-with-nan .ensures),
+      rw (
+        c .before .before .add2 .ensures,
+        at-add .add .ensures,
+        at-wide3 .before .f32-to-f64-with-nan2 .ensures,
+        at-wide3 .f32-to-f64-with-nan3 .ensures,
+        at-add .before .before .f32-to-f64-with-nan4 .ensures,
+      ),
+    )
 
 pub backward-floor-spec : {M : Type 1} → statement M
 backward-floor-spec =

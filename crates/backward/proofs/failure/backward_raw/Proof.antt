@@ -1,4 +1,3 @@
-use Rattle.backward.specs.Failure.{lapseParts}
 use borrow.Author.Needs.{needs}
 use Rattle.backward.proofs.failure.backward_raw.Statement.{statement}
 use Rattle.backward.proofs.failure.backward_raw.Tie as tie
@@ -7,8 +6,7 @@ lapse-parts-requires : tie.Need-lapse-parts-requires
 lapse-parts-requires c κs = search needs
 
 lapse-slots-requires : tie.Need-lapse-slots-requires
-unfolding lapseParts
-lapse-slots-requires c κs = (rw (c .before .lapse-parts .ensures), rw (c .before .lapse-parts .ensures))
+lapse-slots-requires c κs = search needs
 
 lapse-grads-requires : tie.Need-lapse-grads-requires
 lapse-grads-requires c κs = search needs
@@ -17,10 +15,11 @@ same-length : tie.Need-same-length
 same-length c = search needs
 
 returns : tie.Need-returns
-returns c = (
-  rw (c .lapse-grads .ensures, c .before .before .before .before .before .lapse-parts .ensures),
-  rw (c .before .before .before .lapse-slots .ensures, c .before .before .before .before .before .lapse-parts .ensures),
-)
+returns c =
+    let at-lapse-slots = c .before .before .before in (
+      rw (c .lapse-grads .ensures, at-lapse-slots .before .before .lapse-parts .ensures),
+      rw (at-lapse-slots .lapse-slots .ensures, at-lapse-slots .before .before .lapse-parts .ensures),
+    )
 
 pub backward-raw-spec : {M : Type 1} → statement M
 backward-raw-spec =

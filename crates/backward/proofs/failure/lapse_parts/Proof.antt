@@ -39,7 +39,22 @@ exp-f64-requires c κs = search needs
 returns : tie.Need-returns
 unfolding lapseParts
 returns c =
-    rw (c .exp-f64 .ensures, c .before .pow-ln-f642 .ensures, c .before .before .pow-ln-f64 .ensures, c .before .before .before .f32-to-f64-with-nan8 .ensures, c .before .before .before .before .f32-to-f64-with-nan7 .ensures, c .before .before .before .before .before .f32-to-f64-with-nan6 .ensures, c .before .before .before .before .before .before .f32-to-f64-with-nan5 .ensures, c .before .before .before .before .before .before .before .f32-to-f64-with-nan4 .ensures, c .before .before .before .before .before .before .before .before .f32-to-f64-with-nan3 .ensures, c .before .before .before .before .before .before .before .before .before .f32-to-f64-with-nan2 .ensures, c .before .before .before .before .before .before .before .before .before .before .f32-to-f64-with-nan .ensures)
+    let at-wide8 = c .before .before .before in
+    let at-wide5 = at-wide8 .before .before .before in
+    let at-wide2 = at-wide5 .before .before .before in
+    rw (
+      c .exp-f64 .ensures,
+      c .before .pow-ln-f642 .ensures,
+      c .before .before .pow-ln-f64 .ensures,
+      at-wide8 .f32-to-f64-with-nan8 .ensures,
+      at-wide8 .before .f32-to-f64-with-nan7 .ensures,
+      at-wide8 .before .before .f32-to-f64-with-nan6 .ensures,
+      at-wide5 .f32-to-f64-with-nan5 .ensures,
+      at-wide5 .before .f32-to-f64-with-nan4 .ensures,
+      at-wide5 .before .before .f32-to-f64-with-nan3 .ensures,
+      at-wide2 .f32-to-f64-with-nan2 .ensures,
+      at-wide2 .before .f32-to-f64-with-nan .ensures,
+    )
 
 pub lapse-parts-spec : {M : Type 1} → statement M
 lapse-parts-spec =

@@ -1,6 +1,5 @@
 use lib.Seq.{set-out}
-use mathlib.Core.Path.{sym}
-use mathlib.Core.Path.{refl}
+use mathlib.Core.Path.{refl, sym}
 use Rattle.backward.specs.Slots.{bump}
 use borrow.Author.Needs.{needs}
 use Rattle.backward.proofs.slots.add.Statement.{statement}

@@ -1,4 +1,4 @@
-use Rattle.backward.specs.Own.{ownShort}
+use Rattle.backward.specs.inner.Own.{ownShort}
 use borrow.Author.Needs.{needs}
 use Rattle.backward.proofs.step.flow_short.Statement.{statement}
 use Rattle.backward.proofs.step.flow_short.Tie as tie
@@ -20,10 +20,9 @@ same-length c = search needs
 
 returns : tie.Need-returns
 unfolding ownShort
-returns c = (
-  rw (c .before .before .backward-short .ensures .0),
-  c .before .before .backward-short .ensures .1,
-)
+returns c =
+    let back = c .before .before .backward-short .ensures in
+    (rw (back .0), back .1)
 
 pub flow-short-spec : {M : Type 1} → statement M
 flow-short-spec =

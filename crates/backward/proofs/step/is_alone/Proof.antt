@@ -1,4 +1,4 @@
-use Rattle.backward.specs.Own.{alone}
+use Rattle.backward.specs.inner.Own.{alone}
 use borrow.Author.Needs.{needs}
 use Rattle.backward.proofs.step.is_alone.Statement.{statement}
 use Rattle.backward.proofs.step.is_alone.Tie as tie

@@ -1,5 +1,6 @@
 use mathlib.Core.Path.{_∙_}
-use Rattle.backward.proofs.Flow.{padding-flow, padding-slots, first-flow, first-slots, short-flow, short-slots, lapse-flow, lapse-slots, success-flow, success-slots}
+use Rattle.backward.proofs.Flow.{padding-flow, padding-slots, first-flow, first-slots, short-flow, short-slots}
+use Rattle.backward.proofs.Flow.{lapse-flow, lapse-slots, success-flow, success-slots}
 use borrow.Author.Needs.{needs}
 use Rattle.backward.proofs.step.own_flow.Statement.{statement}
 use Rattle.backward.proofs.step.own_flow.Tie as tie
@@ -45,7 +46,8 @@ same-length c = search needs
 returns-2 : tie.Need-returns-2
 returns-2 c =
     let e = c .before .before .before .before .before .branch .given .1 in
-    (c .before .before .flow-first .ensures .0 ∙ first-flow _ _ _ _ _ _ _ e, c .before .before .flow-first .ensures .1 ∙ first-slots _ _ _ _ _ _ _ e)
+    let own = c .before .before .flow-first .ensures in
+    (own .0 ∙ first-flow _ _ _ _ _ _ _ e, own .1 ∙ first-slots _ _ _ _ _ _ _ e)
 
 same-length-2 : tie.Need-same-length-2
 same-length-2 c = search needs
@@ -53,7 +55,8 @@ same-length-2 c = search needs
 returns-3 : tie.Need-returns-3
 returns-3 c =
     let e = c .before .before .before .before .before .branch2 .given .1 in
-    (c .before .before .flow-short .ensures .0 ∙ short-flow _ _ _ _ _ _ _ _ _ e, c .before .before .flow-short .ensures .1 ∙ short-slots _ _ _ _ _ _ _ _ _ e)
+    let own = c .before .before .flow-short .ensures in
+    (own .0 ∙ short-flow _ _ _ _ _ _ _ _ _ e, own .1 ∙ short-slots _ _ _ _ _ _ _ _ _ e)
 
 same-length-3 : tie.Need-same-length-3
 same-length-3 c = search needs
@@ -61,7 +64,8 @@ same-length-3 c = search needs
 returns-4 : tie.Need-returns-4
 returns-4 c =
     let e = c .before .before .before .before .before .branch3 .given .1 in
-    (c .before .before .flow-lapse .ensures .0 ∙ lapse-flow _ _ _ _ _ _ _ _ _ e, c .before .before .flow-lapse .ensures .1 ∙ lapse-slots _ _ _ _ _ _ _ _ _ e)
+    let own = c .before .before .flow-lapse .ensures in
+    (own .0 ∙ lapse-flow _ _ _ _ _ _ _ _ _ e, own .1 ∙ lapse-slots _ _ _ _ _ _ _ _ _ e)
 
 same-length-4 : tie.Need-same-length-4
 same-length-4 c = search needs
@@ -69,7 +73,8 @@ same-length-4 c = search needs
 returns-5 : tie.Need-returns-5
 returns-5 c =
     let e = c .before .before .before .before .enum-told2 .given .1 in
-    (c .before .before .flow-success .ensures .0 ∙ success-flow _ _ _ _ _ _ e, c .before .before .flow-success .ensures .1 ∙ success-slots _ _ _ _ _ _ e)
+    let own = c .before .before .flow-success .ensures in
+    (own .0 ∙ success-flow _ _ _ _ _ _ e, own .1 ∙ success-slots _ _ _ _ _ _ e)
 
 pub own-flow-spec : {M : Type 1} → statement M
 own-flow-spec =

@@ -26,10 +26,25 @@ same-length c = search needs
 
 returns : tie.Need-returns
 unfolding stepGrad stepMoved preGrad
-returns c = (
-  rw (c .before .before .curve-backward .ensures .0, c .before .before .before .before .before .before .flow .ensures .0, c .before .before .before .before .before .before .before .before .record-curve .ensures, c .before .before .before .before .before .before .before .before .before .stability-grad2 .ensures, c .before .before .before .before .before .before .before .before .before .before .difficulty-grad .ensures, c .before .before .before .before .before .before .before .before .before .before .before .stability-grad .ensures),
-  rw (c .before .before .curve-backward .ensures .1, c .before .before .before .before .before .before .flow .ensures .0, c .before .before .before .before .before .before .flow .ensures .1, c .before .before .before .before .before .before .before .before .record-curve .ensures, c .before .before .before .before .before .before .before .before .before .stability-grad2 .ensures),
-)
+returns c =
+    let at-flow = c .before .before .before .before .before .before in
+    let at-stability-grad2 = at-flow .before .before .before in (
+      rw (
+        c .before .before .curve-backward .ensures .0,
+        at-flow .flow .ensures .0,
+        at-flow .before .before .record-curve .ensures,
+        at-stability-grad2 .stability-grad2 .ensures,
+        at-stability-grad2 .before .difficulty-grad .ensures,
+        at-stability-grad2 .before .before .stability-grad .ensures,
+      ),
+      rw (
+        c .before .before .curve-backward .ensures .1,
+        at-flow .flow .ensures .0,
+        at-flow .flow .ensures .1,
+        at-flow .before .before .record-curve .ensures,
+        at-stability-grad2 .stability-grad2 .ensures,
+      ),
+    )
 
 pub step-backward-spec : {M : Type 1} → statement M
 step-backward-spec =

@@ -1,4 +1,4 @@
-use Rattle.backward.specs.Success.{successParts, successBack, successMoved}
+use Rattle.backward.specs.Success.{successBack, successMoved}
 use borrow.Author.Needs.{needs}
 use Rattle.backward.proofs.success.backward_success.Statement.{statement}
 use Rattle.backward.proofs.success.backward_success.Tie as tie
@@ -35,8 +35,7 @@ success-parts-requires : tie.Need-success-parts-requires
 success-parts-requires c κs = search needs
 
 success-slots-requires : tie.Need-success-slots-requires
-unfolding successParts
-success-slots-requires c κs = rw (c .before .success-parts .ensures)
+success-slots-requires c κs = search needs
 
 success-grads-requires : tie.Need-success-grads-requires
 success-grads-requires c κs = search needs
@@ -46,10 +45,25 @@ same-length c = search needs
 
 returns-2 : tie.Need-returns-2
 unfolding successBack successMoved
-returns-2 c = (
-  rw (c .before .before .before .before .before .before .before .before .before .if1 .left, c .success-grads .ensures, c .before .before .before .before .before .success-parts .ensures, c .before .before .before .before .before .before .choose2 .ensures, c .before .before .before .before .before .before .before .choose .ensures),
-  rw (c .before .before .before .before .before .before .before .before .before .if1 .left, c .before .before .before .success-slots .ensures, c .before .before .before .before .before .success-parts .ensures, c .before .before .before .before .before .before .choose2 .ensures, c .before .before .before .before .before .before .before .choose .ensures),
-)
+returns-2 c =
+    let at-success-slots = c .before .before .before in
+    let at-choose2 = at-success-slots .before .before .before in
+    let at-if1 = at-choose2 .before .before .before in (
+      rw (
+        at-if1 .if1 .left,
+        c .success-grads .ensures,
+        at-success-slots .before .before .success-parts .ensures,
+        at-choose2 .choose2 .ensures,
+        at-choose2 .before .choose .ensures,
+      ),
+      rw (
+        at-if1 .if1 .left,
+        at-success-slots .success-slots .ensures,
+        at-success-slots .before .before .success-parts .ensures,
+        at-choose2 .choose2 .ensures,
+        at-choose2 .before .choose .ensures,
+      ),
+    )
 
 pub backward-success-spec : {M : Type 1} → statement M
 backward-success-spec =

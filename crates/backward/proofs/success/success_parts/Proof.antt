@@ -33,7 +33,19 @@ exp-f64-requires c κs = search needs
 returns : tie.Need-returns
 unfolding successParts
 returns c =
-    rw (c .exp-f64 .ensures, c .before .pow-ln-f64 .ensures, c .before .before .f32-to-f64-with-nan7 .ensures, c .before .before .before .f32-to-f64-with-nan6 .ensures, c .before .before .before .before .f32-to-f64-with-nan5 .ensures, c .before .before .before .before .before .f32-to-f64-with-nan4 .ensures, c .before .before .before .before .before .before .f32-to-f64-with-nan3 .ensures, c .before .before .before .before .before .before .before .f32-to-f64-with-nan2 .ensures, c .before .before .before .before .before .before .before .before .f32-to-f64-with-nan .ensures)
+    let at-wide6 = c .before .before .before in
+    let at-wide3 = at-wide6 .before .before .before in
+    rw (
+      c .exp-f64 .ensures,
+      c .before .pow-ln-f64 .ensures,
+      c .before .before .f32-to-f64-with-nan7 .ensures,
+      at-wide6 .f32-to-f64-with-nan6 .ensures,
+      at-wide6 .before .f32-to-f64-with-nan5 .ensures,
+      at-wide6 .before .before .f32-to-f64-with-nan4 .ensures,
+      at-wide3 .f32-to-f64-with-nan3 .ensures,
+      at-wide3 .before .f32-to-f64-with-nan2 .ensures,
+      at-wide3 .before .before .f32-to-f64-with-nan .ensures,
+    )
 
 pub success-parts-spec : {M : Type 1} → statement M
 success-parts-spec =

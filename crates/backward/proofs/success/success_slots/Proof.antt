@@ -24,7 +24,17 @@ same-length c = search needs
 returns : tie.Need-returns
 unfolding successSlots
 returns c =
-    rw (c .before .before .add-if2 .ensures, c .before .before .before .before .before .before .add-if .ensures, c .before .before .before .before .before .before .before .before .before .before .add3 .ensures, c .before .before .before .before .before .before .before .before .before .before .before .before .before .before .add2 .ensures, c .before .before .before .before .before .before .before .before .before .before .before .before .before .before .before .before .before .before .add .ensures, ← c .before .before .before .before .before .before .before .before .before .before .before .before .before .before .before .before .before .before .before .before .before .before .before .before .before .before .before .before .before .before .before .before .before .before .before .before .before .before .before .before .before .pre)
+    let at-add-if = c .before .before .before .before .before .before in
+    let at-add3 = at-add-if .before .before .before .before in
+    let at-add2 = at-add3 .before .before .before .before in
+    let at-add = at-add2 .before .before .before .before in
+    rw (
+      c .before .before .add-if2 .ensures,
+      at-add-if .add-if .ensures,
+      at-add3 .add3 .ensures,
+      at-add2 .add2 .ensures,
+      at-add .add .ensures,
+    )
 
 pub success-slots-spec : {M : Type 1} → statement M
 success-slots-spec =

@@ -39,8 +39,10 @@ loop-less c = search needs
 
 loop-again : tie.Need-loop-again Inv-loop μ-loop
 loop-again c =
-    let a = c .before .before .before .before .before .before .args in
-    let l = c .before .before .before .loop in (
+    let at-loop = c .before .before .before in
+    let at-args = at-loop .before .before .before in
+    let a = at-args .args in
+    let l = at-loop .loop in (
       search needs,
       search needs,
       next-filled (λ (k : ℕ). ofBits binary32 (wordAt (a .file .now) k)) (a .from) (l .i) (a .xs .now) (l .xs) _ (search needs) (l .inv .2) (c .single .ensures ∙ ap (ofBits binary32) (c .before .word-at .ensures)),
@@ -51,7 +53,8 @@ same-length c = c .before .loop .inv .1
 
 returns : tie.Need-returns Inv-loop μ-loop
 returns c =
-    let a = c .before .before .before .before .args in
+    let at-args = c .before .before .before .before in
+    let a = at-args .args in
     let l = c .before .loop in
     all-filled (λ (k : ℕ). ofBits binary32 (wordAt (a .file .now) k)) (a .from) (l .i) (a .xs .now) (l .xs) (search needs) (l .inv .2)
 

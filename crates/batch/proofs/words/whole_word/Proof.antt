@@ -59,8 +59,12 @@ add-result-3 c = search needs
 
 returns : tie.Need-returns
 returns c =
-    let start = c .before .before .before .before .before .before .before .before .before in
-    rw (c .widened4 .ensures .0, c .before .before .widened3 .ensures .0, c .before .before .before .before .widened2 .ensures .0, c .before .before .before .before .before .before .widened .ensures .0) (word-whole (start .args .file .now) (start .args .k) (start .pre))
+    let at-widened3 = c .before .before in
+    let at-widened2 = at-widened3 .before .before in
+    let at-widened = at-widened2 .before .before in
+    let at-before = at-widened .before .before in
+    let start = at-before .before in
+    rw (c .widened4 .ensures .0, at-widened3 .widened3 .ensures .0, at-widened2 .widened2 .ensures .0, at-widened .widened .ensures .0) (word-whole (start .args .file .now) (start .args .k) (start .pre))
 
 pub whole-word-spec : {M : Type 1} → statement M
 whole-word-spec =

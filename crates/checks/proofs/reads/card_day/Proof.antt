@@ -23,7 +23,12 @@ both-requires c κs = search needs
 
 returns : tie.Need-returns
 unfolding cardDay
-returns c = rw (c .both .ensures, c .before .pick .ensures, c .before .before .is-nonzero2 .ensures, c .before .before .before .is-nonzero .ensures, c .before .before .before .before .is-last .ensures, c .before .before .before .before .before .is-later .ensures)
+returns c =
+    let at-is-nonzero2 = c .before .before in
+    let at-is-nonzero = at-is-nonzero2 .before in
+    let at-is-last = at-is-nonzero .before in
+    let at-is-later = at-is-last .before in
+    rw (c .both .ensures, c .before .pick .ensures, at-is-nonzero2 .is-nonzero2 .ensures, at-is-nonzero .is-nonzero .ensures, at-is-last .is-last .ensures, at-is-later .is-later .ensures)
 
 pub card-day-spec : {M : Type 1} → statement M
 card-day-spec =

@@ -32,7 +32,15 @@ first-requires-2 c κs = search needs
 
 returns : tie.Need-returns
 unfolding cardRow cardRating
-returns c = rw (c .first2 .ensures, c .before .first .ensures, c .before .before .card-score .ensures, c .before .before .before .check2 .ensures, c .before .before .before .before .is-day .ensures, c .before .before .before .before .before .card-day .ensures, c .before .before .before .before .before .before .check .ensures, c .before .before .before .before .before .before .before .is-rating .ensures, c .before .before .before .before .before .before .before .before .is-last .ensures)
+returns c =
+    let at-card-score = c .before .before in
+    let at-check2 = at-card-score .before in
+    let at-is-day = at-check2 .before in
+    let at-card-day = at-is-day .before in
+    let at-check = at-card-day .before in
+    let at-is-rating = at-check .before in
+    let at-is-last = at-is-rating .before in
+    rw (c .first2 .ensures, c .before .first .ensures, at-card-score .card-score .ensures, at-check2 .check2 .ensures, at-is-day .is-day .ensures, at-card-day .card-day .ensures, at-check .check .ensures, at-is-rating .is-rating .ensures, at-is-last .is-last .ensures)
 
 pub card-row-spec : {M : Type 1} → statement M
 card-row-spec =

@@ -29,7 +29,14 @@ first-requires c κs = search needs
 
 returns : tie.Need-returns
 unfolding cardScore cardLabel
-returns c = rw (c .first .ensures, c .before .check2 .ensures, c .before .before .is-label .ensures, c .before .before .before .check .ensures, c .before .before .before .before .is-weight .ensures, c .before .before .before .before .before .both .ensures, c .before .before .before .before .before .before .is-nonzero .ensures, c .before .before .before .before .before .before .before .is-later .ensures)
+returns c =
+    let at-is-label = c .before .before in
+    let at-check = at-is-label .before in
+    let at-is-weight = at-check .before in
+    let at-both = at-is-weight .before in
+    let at-is-nonzero = at-both .before in
+    let at-is-later = at-is-nonzero .before in
+    rw (c .first .ensures, c .before .check2 .ensures, at-is-label .is-label .ensures, at-check .check .ensures, at-is-weight .is-weight .ensures, at-both .both .ensures, at-is-nonzero .is-nonzero .ensures, at-is-later .is-later .ensures)
 
 pub card-score-spec : {M : Type 1} → statement M
 card-score-spec =

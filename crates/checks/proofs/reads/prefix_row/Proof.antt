@@ -29,7 +29,14 @@ first-requires c κs = search needs
 
 returns : tie.Need-returns
 unfolding prefixRow prefixDay
-returns c = rw (c .first .ensures, c .before .check2 .ensures, c .before .before .is-day .ensures, c .before .before .before .check .ensures, c .before .before .before .before .is-rating .ensures, c .before .before .before .before .before .both .ensures, c .before .before .before .before .before .before .is-nonzero .ensures, c .before .before .before .before .before .before .before .is-later .ensures)
+returns c =
+    let at-is-day = c .before .before in
+    let at-check = at-is-day .before in
+    let at-is-rating = at-check .before in
+    let at-both = at-is-rating .before in
+    let at-is-nonzero = at-both .before in
+    let at-is-later = at-is-nonzero .before in
+    rw (c .first .ensures, c .before .check2 .ensures, at-is-day .is-day .ensures, at-check .check .ensures, at-is-rating .is-rating .ensures, at-both .both .ensures, at-is-nonzero .is-nonzero .ensures, at-is-later .is-later .ensures)
 
 pub prefix-row-spec : {M : Type 1} → statement M
 prefix-row-spec =

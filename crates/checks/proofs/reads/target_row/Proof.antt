@@ -32,7 +32,15 @@ first-requires-2 c κs = search needs
 
 returns : tie.Need-returns
 unfolding targetDef
-returns c = rw (c .first2 .ensures, c .before .first .ensures, c .before .before .check3 .ensures, c .before .before .before .is-weight .ensures, c .before .before .before .before .check2 .ensures, c .before .before .before .before .before .is-day .ensures, c .before .before .before .before .before .before .check .ensures, c .before .before .before .before .before .before .before .is-label .ensures, c .before .before .before .before .before .before .before .before .is-nonzero .ensures)
+returns c =
+    let at-check3 = c .before .before in
+    let at-is-weight = at-check3 .before in
+    let at-check2 = at-is-weight .before in
+    let at-is-day = at-check2 .before in
+    let at-check = at-is-day .before in
+    let at-is-label = at-check .before in
+    let at-is-nonzero = at-is-label .before in
+    rw (c .first2 .ensures, c .before .first .ensures, at-check3 .check3 .ensures, at-is-weight .is-weight .ensures, at-check2 .check2 .ensures, at-is-day .is-day .ensures, at-check .check .ensures, at-is-label .is-label .ensures, at-is-nonzero .is-nonzero .ensures)
 
 pub target-row-spec : {M : Type 1} → statement M
 target-row-spec =

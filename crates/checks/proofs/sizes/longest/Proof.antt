@@ -3,7 +3,7 @@ use mathlib.Core.Path.{_≡_, refl}
 use native.Mathlib.Omega.{arith}
 use borrow.Author.Needs.{needs}
 use Rattle.checks.specs.Sizes.{longestDef}
-use Rattle.checks.proofs.sizes.Longer.{longer}
+use Rattle.checks.proofs.Longer.{longer}
 use Rattle.checks.proofs.sizes.longest.Statement.{statement}
 use Rattle.checks.proofs.sizes.longest.Tie as tie
 

@@ -20,7 +20,11 @@ both-requires-4 c κs = search needs
 
 returns : tie.Need-returns
 unfolding tableSized
-returns c = rw (c .both4 .ensures, c .before .both3 .ensures, c .before .before .both2 .ensures, c .before .before .before .both .ensures, c .before .before .before .before .table-cells .ensures)
+returns c =
+    let at-both2 = c .before .before in
+    let at-both = at-both2 .before in
+    let at-table-cells = at-both .before in
+    rw (c .both4 .ensures, c .before .both3 .ensures, at-both2 .both2 .ensures, at-both .both .ensures, at-table-cells .table-cells .ensures)
 
 pub table-sized-spec : {M : Type 1} → statement M
 table-sized-spec =

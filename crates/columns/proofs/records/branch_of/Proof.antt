@@ -24,15 +24,29 @@ returns-4 c = rw (c .if4 .taken, c .before .if3 .left, c .before .before .if2 .l
 
 returns-5 : tie.Need-returns-5
 unfolding branchOf
-returns-5 c = rw (c .if5 .taken, c .before .if4 .left, c .before .before .if3 .left, c .before .before .before .if2 .left, c .before .before .before .before .if1 .left)
+returns-5 c =
+    let at-if3 = c .before .before in
+    let at-if2 = at-if3 .before in
+    let at-if1 = at-if2 .before in
+    rw (c .if5 .taken, c .before .if4 .left, at-if3 .if3 .left, at-if2 .if2 .left, at-if1 .if1 .left)
 
 returns-6 : tie.Need-returns-6
 unfolding branchOf
-returns-6 c = rw (c .if6 .taken, c .before .if5 .left, c .before .before .if4 .left, c .before .before .before .if3 .left, c .before .before .before .before .if2 .left, c .before .before .before .before .before .if1 .left)
+returns-6 c =
+    let at-if4 = c .before .before in
+    let at-if3 = at-if4 .before in
+    let at-if2 = at-if3 .before in
+    let at-if1 = at-if2 .before in
+    rw (c .if6 .taken, c .before .if5 .left, at-if4 .if4 .left, at-if3 .if3 .left, at-if2 .if2 .left, at-if1 .if1 .left)
 
 returns-7 : tie.Need-returns-7
 unfolding branchOf
-returns-7 c = rw (c .if6 .left, c .before .if5 .left, c .before .before .if4 .left, c .before .before .before .if3 .left, c .before .before .before .before .if2 .left, c .before .before .before .before .before .if1 .left)
+returns-7 c =
+    let at-if4 = c .before .before in
+    let at-if3 = at-if4 .before in
+    let at-if2 = at-if3 .before in
+    let at-if1 = at-if2 .before in
+    rw (c .if6 .left, c .before .if5 .left, at-if4 .if4 .left, at-if3 .if3 .left, at-if2 .if2 .left, at-if1 .if1 .left)
 
 pub branch-of-spec : {M : Type 1} → statement M
 branch-of-spec =

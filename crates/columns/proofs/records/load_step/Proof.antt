@@ -32,7 +32,15 @@ clamp-state-requires c κs = search needs
 
 returns : tie.Need-returns
 unfolding loadDef
-returns c = rw (c .clamp-state .ensures, c .before .load-branch .ensures, c .before .before .get7 .ensures, c .before .before .before .get6 .ensures, c .before .before .before .before .get5 .ensures, c .before .before .before .before .before .get4 .ensures, c .before .before .before .before .before .before .get3 .ensures, c .before .before .before .before .before .before .before .get2 .ensures, c .before .before .before .before .before .before .before .before .get .ensures)
+returns c =
+    let at-get7 = c .before .before in
+    let at-get6 = at-get7 .before in
+    let at-get5 = at-get6 .before in
+    let at-get4 = at-get5 .before in
+    let at-get3 = at-get4 .before in
+    let at-get2 = at-get3 .before in
+    let at-get = at-get2 .before in
+    rw (c .clamp-state .ensures, c .before .load-branch .ensures, at-get7 .get7 .ensures, at-get6 .get6 .ensures, at-get5 .get5 .ensures, at-get4 .get4 .ensures, at-get3 .get3 .ensures, at-get2 .get2 .ensures, at-get .get .ensures)
 
 pub load-step-spec : {M : Type 1} → statement M
 load-step-spec =

@@ -12,7 +12,10 @@ same-length : tie.Need-same-length
 same-length c = search needs
 
 returns : tie.Need-returns
-returns c = rw (c .before .before .write .ensures, c .before .before .before .before .place-of .ensures)
+returns c =
+    let at-write = c .before .before in
+    let at-place-of = at-write .before .before in
+    rw (at-write .write .ensures, at-place-of .place-of .ensures)
 
 pub put-spec : {M : Type 1} → statement M
 put-spec = tie.close (tie.spec place-of-requires write-requires same-length returns)

@@ -20,7 +20,12 @@ same-length c = search needs
 
 returns : tie.Need-returns
 unfolding branchValues putAll
-returns c = rw (c .before .before .put3 .ensures, c .before .before .before .before .before .before .put2 .ensures, c .before .before .before .before .before .before .before .before .before .before .put .ensures, c .before .before .before .before .before .before .before .before .before .before .before .before .branch-cells .ensures)
+returns c =
+    let at-put3 = c .before .before in
+    let at-put2 = at-put3 .before .before .before .before in
+    let at-put = at-put2 .before .before .before .before in
+    let at-branch-cells = at-put .before .before in
+    rw (at-put3 .put3 .ensures, at-put2 .put2 .ensures, at-put .put .ensures, at-branch-cells .branch-cells .ensures)
 
 pub store-branch-spec : {M : Type 1} → statement M
 store-branch-spec =

@@ -14,7 +14,10 @@ same-length c = search needs
 
 returns : tie.Need-returns
 unfolding storeDef
-returns c = rw (c .before .before .store-branch .ensures, c .before .before .before .before .before .before .store-values .ensures)
+returns c =
+    let at-store-branch = c .before .before in
+    let at-store-values = at-store-branch .before .before .before .before in
+    rw (at-store-branch .store-branch .ensures, at-store-values .store-values .ensures)
 
 pub store-step-spec : {M : Type 1} → statement M
 store-step-spec =

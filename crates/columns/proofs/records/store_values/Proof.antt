@@ -1,4 +1,4 @@
-use Rattle.columns.specs.Records.{values, putAll}
+use Rattle.columns.specs.Records.{stepValues, putAll}
 use borrow.Author.Needs.{needs}
 use Rattle.columns.proofs.records.store_values.Statement.{statement}
 use Rattle.columns.proofs.records.store_values.Tie as tie
@@ -28,8 +28,16 @@ same-length : tie.Need-same-length
 same-length c = search needs
 
 returns : tie.Need-returns
-unfolding values putAll
-returns c = rw (c .before .before .put7 .ensures, c .before .before .before .before .before .before .put6 .ensures, c .before .before .before .before .before .before .before .before .before .before .put5 .ensures, c .before .before .before .before .before .before .before .before .before .before .before .before .before .before .put4 .ensures, c .before .before .before .before .before .before .before .before .before .before .before .before .before .before .before .before .before .before .put3 .ensures, c .before .before .before .before .before .before .before .before .before .before .before .before .before .before .before .before .before .before .before .before .before .before .put2 .ensures, c .before .before .before .before .before .before .before .before .before .before .before .before .before .before .before .before .before .before .before .before .before .before .before .before .before .before .put .ensures)
+unfolding stepValues putAll
+returns c =
+    let at-put7 = c .before .before in
+    let at-put6 = at-put7 .before .before .before .before in
+    let at-put5 = at-put6 .before .before .before .before in
+    let at-put4 = at-put5 .before .before .before .before in
+    let at-put3 = at-put4 .before .before .before .before in
+    let at-put2 = at-put3 .before .before .before .before in
+    let at-put = at-put2 .before .before .before .before in
+    rw (at-put7 .put7 .ensures, at-put6 .put6 .ensures, at-put5 .put5 .ensures, at-put4 .put4 .ensures, at-put3 .put3 .ensures, at-put2 .put2 .ensures, at-put .put .ensures)
 
 pub store-values-spec : {M : Type 1} → statement M
 store-values-spec =

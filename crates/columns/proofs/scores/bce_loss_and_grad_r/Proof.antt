@@ -28,14 +28,19 @@ passed-requires c κs = search needs
 returns-2 : tie.Need-returns-2
 unfolding scoreDef noScore
 returns-2 c =
+    let at-is-inside = c .before .before in
+    let at-f32-to-f64-with-nan = at-is-inside .before in
+    let at-bce-loss = at-f32-to-f64-with-nan .before in
+    let at-probability = at-bce-loss .before in
+    let at-if1 = at-probability .before in
     rw (
       c .passed .ensures,
       c .before .bce-grad .ensures,
-      c .before .before .is-inside .ensures,
-      c .before .before .before .f32-to-f64-with-nan .ensures,
-      c .before .before .before .before .bce-loss .ensures,
-      c .before .before .before .before .before .probability .ensures,
-      c .before .before .before .before .before .before .if1 .left,
+      at-is-inside .is-inside .ensures,
+      at-f32-to-f64-with-nan .f32-to-f64-with-nan .ensures,
+      at-bce-loss .bce-loss .ensures,
+      at-probability .probability .ensures,
+      at-if1 .if1 .left,
     )
 
 pub bce-loss-and-grad-r-spec : {M : Type 1} → statement M

@@ -29,9 +29,11 @@ ln-f32-requires-2 c κs = search needs
 
 returns-3 : tie.Need-returns-3
 returns-3 c =
-    let s = c .before .before .before .before .before in
+    let at-if1 = c .before .before .before in
+    let at-before = at-if1 .before in
+    let s = at-before .before in
     c .ln-f322 .ensures
-    ∙ sym (at-zero (s .args .r) (s .args .label) (holds (s .good .0 .1)) (sym (c .before .before .before .before .has-logs .ensures) ∙ not-false (c .before .before .before .before .has-logs .result) (c .before .before .before .if1 .left)) (c .before .if3 .taken))
+    ∙ sym (at-zero (s .args .r) (s .args .label) (holds (s .good .0 .1)) (sym (at-before .has-logs .ensures) ∙ not-false (at-before .has-logs .result) (at-if1 .if1 .left)) (c .before .if3 .taken))
 
 both-logs-requires-2 : tie.Need-both-logs-requires-2
 both-logs-requires-2 c κs = search needs

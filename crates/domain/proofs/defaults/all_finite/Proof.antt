@@ -1,11 +1,11 @@
 use Prim.Native.Nat.{_≤_, _-_}
-use mathlib.Core.Path.{_≡_, _∙_, sym, subst}
 use mathlib.Core.Bool.{true}
+use mathlib.Core.Path.{_≡_, _∙_, sym, subst}
 use native.Mathlib.Omega.{arith}
-use borrow.Author.Needs.{needs}
-use borrow.Author.Tests.{not-true, not-false}
 use lib.Ieee.Scale.{finite}
 use lib.ListN.{length}
+use borrow.Author.Needs.{needs}
+use borrow.Author.Tests.{not-true, not-false}
 use Rattle.domain.specs.Weights.{all}
 use Rattle.domain.proofs.weights.All.{none, more, miss}
 use Rattle.domain.proofs.defaults.all_finite.Statement.{statement}
@@ -33,7 +33,8 @@ returns : tie.Need-returns Inv-loop μ-loop
 returns c =
     let l = c .before .before .before .before .loop in
     let n = l .inv .1 in
-    sym (miss _ _ (l .i) _ (omega (arith, c .before .before .before .loop-test .taken, n)) (sym (c .before .is-finite .ensures) ∙ not-true _ (c .if1 .taken)))
+    let e = sym (c .before .is-finite .ensures) ∙ not-true _ (c .if1 .taken) in
+    sym (miss _ _ (l .i) _ (omega (arith, c .before .before .before .loop-test .taken, n)) e)
 
 add-i : tie.Need-add-i Inv-loop μ-loop
 add-i c = search needs
@@ -42,13 +43,16 @@ loop-less : tie.Need-loop-less Inv-loop μ-loop
 loop-less c = search needs
 
 loop-again : tie.Need-loop-again Inv-loop μ-loop
-loop-again c = (search needs, search needs, more _ _ _ (c .before .before .before .before .loop .inv .2) (sym (c .before .is-finite .ensures) ∙ not-false _ (c .if1 .left)))
+loop-again c =
+    let e = sym (c .before .is-finite .ensures) ∙ not-false _ (c .if1 .left) in
+    (search needs, search needs, more _ _ _ (c .before .before .before .before .loop .inv .2) e)
 
 returns-2 : tie.Need-returns-2 Inv-loop μ-loop
 returns-2 c =
     let l = c .before .loop in
-    let e : l .i ≡ length (c .before .before .before .args .w .now) = omega (arith, l .inv .0, l .inv .1, c .loop-test .left) in
-    sym (subst (λ k. all (λ j x. finite x) k (c .before .before .before .args .w .now) ≡ true) e (l .inv .2))
+    let w = c .before .before .before .args .w .now in
+    let e : l .i ≡ length w = omega (arith, l .inv .0, l .inv .1, c .loop-test .left) in
+    sym (subst (λ k. all (λ j x. finite x) k w ≡ true) e (l .inv .2))
 
 pub all-finite-spec : {M : Type 1} → statement M
 all-finite-spec =

@@ -1,11 +1,11 @@
 use Prim.Native.Nat.{_≤_, _-_}
-use mathlib.Core.Path.{_≡_, refl, _∙_}
 use mathlib.Core.Bool.{cond}
 use mathlib.Core.List.{_++_}
+use mathlib.Core.Path.{_≡_, refl, _∙_}
 use native.Mathlib.Omega.{arith}
-use borrow.Author.Needs.{needs}
 use lib.Dec.{leb}
 use lib.ListN.{length, replicate, take}
+use borrow.Author.Needs.{needs}
 use Rattle.domain.specs.Limits.{zero32}
 use Rattle.domain.proofs.weights.Copy.{copied, all-copied, under-21, under-length}
 use Rattle.domain.proofs.weights.copy_weights.Statement.{statement}

@@ -1,16 +1,16 @@
 use Prim.Native.Nat.{ℕ, _≤_, _<_, _-_}
-use mathlib.Core.Path.{_≡_}
 use mathlib.Core.Bool.{true, false}
+use mathlib.Core.List.{List}
 use mathlib.Core.Logic.{⊎-elim}
+use mathlib.Core.Path.{_≡_}
 use native.Mathlib.Omega.{arith}
+use lib.Ieee.{Float, le}
+use lib.ListN.{length}
 use borrow.Author.Needs.{needs}
 use borrow.Author.Tests.{eq-eqb, ne-eqb}
-use mathlib.Core.List.{List}
-use lib.ListN.{length}
-use lib.Ieee.{Float, le}
+use Rattle.domain.specs.Weights.{LOW, HIGH, _!_, inBox, all, weightsRefusal}
 use Rattle.domain.proofs.weights.All.{none, more, miss, both, not-left, not-right}
 use Rattle.domain.proofs.weights.Tables.{low, high}
-use Rattle.domain.specs.Weights.{LOW, HIGH, _!_, inBox, all, weightsRefusal}
 use Rattle.domain.proofs.weights.weights_refusal.Statement.{statement}
 use Rattle.domain.proofs.weights.weights_refusal.Tie as tie
 
@@ -72,9 +72,10 @@ returns-2 : tie.Need-returns-2 Inv-loop μ-loop
 returns-2 c =
     let l = c .before .before .before .loop in
     let ws = c .before .before .before .before .before .args .w .now in
+    let h = c .before .before .loop-test .taken in
     ⊎-elim
-    (λ w. let e = w .1 .left in refuse ws (l .inv .1) (l .i) (c .before .before .loop-test .taken) (above _ _ (rw high e)))
-    (λ w. let e = w .left in refuse ws (l .inv .1) (l .i) (c .before .before .loop-test .taken) (under _ _ (rw low e)))
+    (λ w. let e = w .1 .left in refuse ws (l .inv .1) (l .i) h (above _ _ (rw high e)))
+    (λ w. let e = w .left in refuse ws (l .inv .1) (l .i) h (under _ _ (rw low e)))
     (c .if2 .came)
 
 returns-3 : tie.Need-returns-3 Inv-loop μ-loop

@@ -63,7 +63,24 @@ exp-f64-requires-2 c κs = search needs
 returns : tie.Need-returns
 unfolding paramsDef
 returns c =
-    rw (c .before .exp-f642 .ensures, c .before .before .f32-to-f64-with-nan4 .ensures, c .before .before .before .before .f32-to-f64-with-nan3 .ensures, c .before .before .before .before .before .init-difficulty .ensures, c .before .before .before .before .before .before .before .before .exp-f322 .ensures, c .before .before .before .before .before .before .before .before .before .before .before .exp-f64 .ensures, c .before .before .before .before .before .before .before .before .before .before .before .before .f32-to-f64-with-nan2 .ensures, c .before .before .before .before .before .before .before .before .before .before .before .before .before .before .exp-f32 .ensures, c .before .before .before .before .before .before .before .before .before .before .before .before .before .before .before .before .curve-slope .ensures, c .before .before .before .before .before .before .before .before .before .before .before .before .before .before .before .before .before .f32-to-f64-with-nan .ensures, c .before .before .before .before .before .before .before .before .before .before .before .before .before .before .before .before .before .before .curve-factor .ensures)
+    let at-wide3 = c .before .before .before .before in
+    let at-exp2 = at-wide3 .before .before .before .before in
+    let at-exp = at-exp2 .before .before .before in
+    let at-exp-f32 = at-exp .before .before .before in
+    let at-wide = at-exp-f32 .before .before .before in
+    rw (
+      c .before .exp-f642 .ensures,
+      c .before .before .f32-to-f64-with-nan4 .ensures,
+      at-wide3 .f32-to-f64-with-nan3 .ensures,
+      at-wide3 .before .init-difficulty .ensures,
+      at-exp2 .exp-f322 .ensures,
+      at-exp .exp-f64 .ensures,
+      at-exp .before .f32-to-f64-with-nan2 .ensures,
+      at-exp-f32 .exp-f32 .ensures,
+      at-exp-f32 .before .before .curve-slope .ensures,
+      at-wide .f32-to-f64-with-nan .ensures,
+      at-wide .before .curve-factor .ensures,
+    )
 
 pub runtime-params-spec : {M : Type 1} → statement M
 runtime-params-spec =

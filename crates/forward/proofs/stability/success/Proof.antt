@@ -18,7 +18,8 @@ exp-f32-requires c κs = search needs
 returns : tie.Need-returns
 unfolding successDef
 returns c =
-    rw (c .exp-f32 .ensures, c .before .pow-f32 .ensures, c .before .before .before .choose2 .ensures, c .before .before .before .before .choose .ensures)
+    let at-choose2 = c .before .before .before in
+    rw (c .exp-f32 .ensures, c .before .pow-f32 .ensures, at-choose2 .choose2 .ensures, at-choose2 .before .choose .ensures)
 
 pub success-spec : {M : Type 1} → statement M
 success-spec =

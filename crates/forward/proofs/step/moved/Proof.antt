@@ -3,6 +3,9 @@ use borrow.Author.Needs.{needs}
 use Rattle.forward.proofs.step.moved.Statement.{statement}
 use Rattle.forward.proofs.step.moved.Tie as tie
 
+is-same-day-requires : tie.Need-is-same-day-requires
+is-same-day-requires c κs = search needs
+
 array-read-same-day : tie.Need-array-read-same-day
 array-read-same-day c = search needs
 
@@ -17,7 +20,7 @@ same-day-requires c κs = search needs
 
 returns : tie.Need-returns
 unfolding moveDef
-returns c = rw (c .before .if1 .taken) (c .same-day .ensures)
+returns c = rw (← c .before .before .is-same-day .ensures, c .before .if1 .taken) (c .same-day .ensures)
 
 array-read-lapse : tie.Need-array-read-lapse
 array-read-lapse c = search needs
@@ -36,7 +39,8 @@ lapse-requires c κs = search needs
 
 returns-2 : tie.Need-returns-2
 unfolding moveDef
-returns-2 c = rw (c .before .before .if1 .left, c .before .if2 .taken) (c .lapse .ensures)
+returns-2 c =
+    rw (← c .before .before .before .is-same-day .ensures, c .before .before .if1 .left, c .before .if2 .taken) (c .lapse .ensures)
 
 array-read-success : tie.Need-array-read-success
 array-read-success c = search needs
@@ -55,12 +59,14 @@ success-requires c κs = search needs
 
 returns-3 : tie.Need-returns-3
 unfolding moveDef
-returns-3 c = rw (c .before .before .if1 .left, c .before .if2 .left) (c .success .ensures)
+returns-3 c =
+    rw (← c .before .before .before .is-same-day .ensures, c .before .before .if1 .left, c .before .if2 .left) (c .success .ensures)
 
 pub moved-spec : {M : Type 1} → statement M
 moved-spec =
     tie.close
     (tie.spec
+    is-same-day-requires
     array-read-same-day
     array-read-same-day-2
     array-read-same-day-3

@@ -18,7 +18,12 @@ clamp-state-requires-2 c κs = search needs
 returns : tie.Need-returns
 unfolding firstDef
 returns c =
-    rw (c .clamp-state2 .ensures, c .before .clamp-state .ensures, c .before .before .init-difficulty .ensures, c .before .before .before .rating-number .ensures .0)
+    rw (
+      c .clamp-state2 .ensures,
+      c .before .clamp-state .ensures,
+      c .before .before .init-difficulty .ensures,
+      c .before .before .before .rating-number .ensures .0,
+    )
 
 pub step-first-spec : {M : Type 1} → statement M
 step-first-spec =

@@ -40,7 +40,13 @@ step-first-requires c κs = search needs
 returns-2 : tie.Need-returns-2
 unfolding stepDef
 returns-2 c =
-    rw (c .before .before .before .before .before .if1 .left, ← c .before .before .before .is-first .ensures, c .before .before .if2 .taken, ← c .before .rating-number .ensures .0)
+    let at-is-first = c .before .before .before in
+    rw (
+      at-is-first .before .before .if1 .left,
+      ← at-is-first .is-first .ensures,
+      c .before .before .if2 .taken,
+      ← c .before .rating-number .ensures .0,
+    )
     (c .step-first .ensures)
 
 step-review-requires : tie.Need-step-review-requires

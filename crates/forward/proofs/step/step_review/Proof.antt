@@ -27,7 +27,14 @@ clamp-state-requires-2 c κs = search needs
 returns : tie.Need-returns
 unfolding reviewDef
 returns c =
-    rw (c .clamp-state2 .ensures, c .before .next-difficulty .ensures, c .before .before .before .moved .ensures, c .before .before .before .before .curve-forward .ensures, c .before .before .before .before .before .clamp-state .ensures)
+    let at-moved = c .before .before .before in
+    rw (
+      c .clamp-state2 .ensures,
+      c .before .next-difficulty .ensures,
+      at-moved .moved .ensures,
+      at-moved .before .curve-forward .ensures,
+      at-moved .before .before .clamp-state .ensures,
+    )
 
 pub step-review-spec : {M : Type 1} → statement M
 step-review-spec =

@@ -1,4 +1,4 @@
--- `ln_pow::index::index_of` meets its contract: its start, or the next entry, is m's index. Assumes nothing.
+-- `index::index_of` meets its contract: its start, or the next entry, is m's index. Assumes nothing.
 use borrow.Author.Needs.{needs}
 use Rattle.kernels.proofs.Definitions.Starts.{stays, climbs}
 use Rattle.kernels.proofs.index.index_of.Statement.{statement}

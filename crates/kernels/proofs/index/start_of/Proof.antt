@@ -1,10 +1,11 @@
--- `ln_pow::index::start_of` meets its contract: the cubic's value, tested at each of its 512 arguments. Assumes nothing.
+-- `index::start_of` meets its contract: the cubic's value, tested at each of its 512 arguments. Assumes nothing.
 use mathlib.Core.Path.{_≡_, sym, ap, _∙_, subst}
 use Prim.Native.Nat.{ℕ, _/_, _%_, _^_, _≤_, _<_}
 use native.Mathlib.Omega.{arith}
 use borrow.Author.Needs.{needs}
-use Rattle.kernels.specs.Steps.{Start}
-use Rattle.kernels.proofs.Definitions.Starts.{guess, place, start-is}
+use Rattle.kernels.specs.inner.Ln.{Start}
+use Rattle.table.specs.Start.{startDef}
+use Rattle.kernels.proofs.Definitions.Starts.{place, start-is}
 use Rattle.kernels.proofs.index.start_of.Statement.{statement}
 use Rattle.kernels.proofs.index.start_of.Tie as tie
 
@@ -21,7 +22,7 @@ returns : tie.Need-returns
 returns c =
     let s = c .before in
     let p = s .pre in
-    subst (Start (s .args .m)) (sym (c .start-at .ensures ∙ ap guess (rest-is (s .args .m) (p .0) (p .1)))) (start-is (s .args .m) (p .0) (p .1))
+    subst (Start (s .args .m)) (sym (c .start-at .ensures ∙ ap startDef (rest-is (s .args .m) (p .0) (p .1)))) (start-is (s .args .m) (p .0) (p .1))
 
 pub start-of-spec : {M : Type 1} → statement M
 start-of-spec = tie.close (tie.spec start-at-requires cast-result returns)

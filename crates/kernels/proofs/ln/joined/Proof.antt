@@ -1,4 +1,4 @@
--- `ln_pow::ln::joined` meets its contract. Assumes nothing.
+-- `ln::joined` meets its contract. Assumes nothing.
 use borrow.Author.Needs.{needs}
 use Rattle.soft.specs.Value.{valueOf}
 use Rattle.kernels.proofs.ln.Answer.{join}

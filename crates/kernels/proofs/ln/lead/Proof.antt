@@ -1,4 +1,4 @@
--- `ln_pow::ln::lead` meets its contract: the shift is from 1 to 20, and what it cuts off is in the lower word. Assumes nothing.
+-- `ln::lead` meets its contract: the shift is from 1 to 20, and what it cuts off is in the lower word. Assumes nothing.
 use Prim.Native.Nat.{ℕ, _+_, _*_, _^_, _≤_, _<_}
 use native.Mathlib.Omega.{arith}
 use borrow.Author.Needs.{needs}

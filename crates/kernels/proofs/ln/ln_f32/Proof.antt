@@ -1,4 +1,4 @@
--- `ln_pow::ln::ln_f32` meets its contract. Assumes nothing.
+-- `ln::ln_f32` meets its contract. Assumes nothing.
 use mathlib.Core.Path.{sym, ap, _∙_}
 use lib.Ieee.{binary32, ofBits, div}
 use borrow.Author.Needs.{needs}

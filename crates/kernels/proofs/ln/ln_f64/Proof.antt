@@ -1,4 +1,4 @@
--- `ln_pow::ln::ln_f64` meets its contract. Assumes nothing.
+-- `ln::ln_f64` meets its contract. Assumes nothing.
 use mathlib.Core.Path.{sym, _∙_}
 use lib.Ieee.{binary64, ofBits, div}
 use borrow.Author.Needs.{needs}

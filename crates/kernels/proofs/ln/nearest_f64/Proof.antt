@@ -1,4 +1,4 @@
--- `ln_pow::ln::nearest_f64` meets its contract: below 2 ^ -10 by `pack_wide_f64`, and from there on by one rounding of 10 digits. Assumes nothing.
+-- `ln::nearest_f64` meets its contract: below 2 ^ -10 by `pack_wide_f64`, and from there on by one rounding of 10 digits. Assumes nothing.
 use mathlib.Core.Path.{_≡_, refl, ap, _∙_}
 use Prim.Native.Nat.{ℕ, _+_, _-_, _*_, _/_, _%_, _^_}
 use lib.Dec.{lit≤}

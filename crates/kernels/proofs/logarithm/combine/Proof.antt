@@ -1,4 +1,4 @@
--- `ln_pow::logarithm::combine` meets its contract: by the sign of k. Assumes nothing.
+-- `logarithm::combine` meets its contract: by the sign of k. Assumes nothing.
 use Prim.Native.Nat.{ℕ}
 use native.Mathlib.Omega.{arith}
 use lib.IntN.{ℤ, pos, natAbs, _-ℤ_}

@@ -1,4 +1,4 @@
--- `ln_pow::logarithm::exponent` meets its contract. Assumes nothing.
+-- `logarithm::exponent` meets its contract. Assumes nothing.
 use Prim.Native.Nat.{_+_}
 use native.Mathlib.Omega.{arith}
 use lib.Dec.{lit<}

@@ -1,4 +1,4 @@
--- `ln_pow::logarithm::gap_of` meets its contract. Assumes nothing.
+-- `logarithm::gap_of` meets its contract. Assumes nothing.
 use native.Mathlib.Omega.{arith}
 use borrow.Author.Needs.{needs}
 use Rattle.kernels.proofs.Definitions.Gap.{gap-is, index-most}

@@ -1,4 +1,4 @@
--- `ln_pow::logarithm::has_log` meets its contract. Assumes nothing.
+-- `logarithm::has_log` meets its contract. Assumes nothing.
 use lib.Ieee.{nanBits, ofBits}
 use Rattle.soft.proofs.units.Value.{holds}
 use Rattle.kernels.proofs.logarithm.Units.{above-zero, not-above}

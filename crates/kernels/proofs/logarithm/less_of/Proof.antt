@@ -1,4 +1,4 @@
--- `ln_pow::logarithm::less_of` meets its contract: by the top digit of the wrapped difference. Assumes nothing.
+-- `logarithm::less_of` meets its contract: by the top digit of the wrapped difference. Assumes nothing.
 use mathlib.Core.Path.{refl}
 use Prim.Native.Nat.{_^_}
 use native.Mathlib.Omega.{arith}

@@ -1,4 +1,4 @@
--- `ln_pow::logarithm::log_at` meets its contract. Assumes nothing.
+-- `logarithm::log_at` meets its contract. Assumes nothing.
 use mathlib.Core.Path.{sym, subst}
 use mathlib.Core.Bool.{cond}
 use lib.Ieee.{binary32, binary64}

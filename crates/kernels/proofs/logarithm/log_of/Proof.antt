@@ -1,4 +1,4 @@
--- `ln_pow::logarithm::log_of` meets its contract: by its units, or straight from a normal double's pattern. Assumes nothing.
+-- `logarithm::log_of` meets its contract: by its units, or straight from a normal double's pattern. Assumes nothing.
 use mathlib.Core.Path.{refl, sym, subst}
 use mathlib.Core.Bool.{cond}
 use Prim.Native.Nat.{_/_, _^_}
@@ -9,7 +9,7 @@ use borrow.Author.Needs.{needs}
 use Rattle.soft.proofs.Rounding.Exponent.{exponent-fits, exponent-is}
 use Rattle.soft.proofs.units.Value.{holds}
 use Rattle.kernels.specs.Core.{Fixed}
-use Rattle.kernels.specs.LnSteps.{Logged}
+use Rattle.kernels.specs.inner.Ln.{Logged}
 use Rattle.kernels.proofs.logarithm.Signed.{Near}
 use Rattle.kernels.proofs.logarithm.Units.{log-of, measure-ready, no-nan, field-lt, led-range, exponent-short, logged}
 use Rattle.kernels.proofs.logarithm.log_of.Statement.{statement}

@@ -1,4 +1,4 @@
--- `ln_pow::logarithm::log_units` meets its contract. Assumes nothing.
+-- `logarithm::log_units` meets its contract. Assumes nothing.
 use mathlib.Core.Bool.{cond}
 use Prim.Native.Nat.{_+_}
 use native.Mathlib.Omega.{arith}

@@ -1,4 +1,4 @@
--- `ln_pow::logarithm::scaled` meets its contract. Assumes nothing.
+-- `logarithm::scaled` meets its contract. Assumes nothing.
 use native.Mathlib.Omega.{arith}
 use borrow.Author.Needs.{needs}
 use Rattle.kernels.proofs.logarithm.Chain.{scaled-is}

@@ -1,4 +1,4 @@
--- `ln_pow::logarithm::term` meets its contract. Assumes nothing.
+-- `logarithm::term` meets its contract. Assumes nothing.
 use borrow.Author.Needs.{needs}
 use Rattle.kernels.proofs.logarithm.Chain.{term-fits}
 use Rattle.kernels.proofs.logarithm.term.Statement.{statement}

@@ -1,4 +1,4 @@
--- `ln_pow::logarithm::terms` meets its contract. Assumes nothing.
+-- `logarithm::terms` meets its contract. Assumes nothing.
 use borrow.Author.Needs.{needs}
 use Rattle.kernels.proofs.logarithm.terms.Statement.{statement}
 use Rattle.kernels.proofs.logarithm.terms.Tie as tie

@@ -1,4 +1,4 @@
--- `ln_pow::logarithm::words` meets its contract. Assumes nothing.
+-- `logarithm::words` meets its contract. Assumes nothing.
 use mathlib.Core.Path.{refl}
 use native.Mathlib.Omega.{arith}
 use borrow.Author.Needs.{needs}

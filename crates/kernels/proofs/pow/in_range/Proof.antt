@@ -1,4 +1,4 @@
--- `ln_pow::pow::in_range` meets its contract. Assumes nothing.
+-- `pow::in_range` meets its contract. Assumes nothing.
 use mathlib.Core.Path.{sym, ap, _∙_}
 use mathlib.Core.Bool.{Bool, _&&_}
 use lib.IntN.{pos}

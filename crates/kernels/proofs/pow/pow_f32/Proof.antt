@@ -1,4 +1,4 @@
--- `ln_pow::pow::pow_f32` meets its contract. Assumes nothing.
+-- `pow::pow_f32` meets its contract. Assumes nothing.
 use mathlib.Core.Path.{sym, ap, ap₂, subst, _∙_}
 use lib.Ieee.{binary32, ofBits, div, Float, binary64, fits}
 use lib.Dec.{T}

@@ -1,4 +1,4 @@
--- `ln_pow::pow::times` meets its contract. Assumes nothing.
+-- `pow::times` meets its contract. Assumes nothing.
 use borrow.Author.Needs.{needs}
 use Rattle.soft.specs.Value.{valueOf}
 use Rattle.kernels.proofs.pow.Product.{cut-is}

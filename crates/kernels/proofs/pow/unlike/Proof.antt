@@ -1,4 +1,4 @@
--- `ln_pow::pow::unlike` meets its contract. Assumes nothing.
+-- `pow::unlike` meets its contract. Assumes nothing.
 use mathlib.Core.Path.{_≡_, sym, ap}
 use mathlib.Core.Bool.{Bool, true, false, not}
 use lib.Ieee as Ieee

@@ -8,7 +8,7 @@ use lib.Ieee.{Format, binary32, binary64}
 use Rattle.table.specs.Exact.{N}
 use Rattle.table.proofs.Exact.Below.{less}
 use Rattle.table.specs.Entry.{entry}
-use Rattle.kernels.specs.Core.{gap, below, index}
+use Rattle.kernels.specs.Core.{gap, lnBelow, index}
 use Rattle.laws.proofs.Distances.logarithm.Sum.{PP, FF, Sn, Sd}
 use Rattle.laws.proofs.Distances.logarithm.Horner.{lg, below-is, cut}
 use Rattle.laws.proofs.Distances.logarithm.Argument.{Place, core-up, core-down}
@@ -95,7 +95,8 @@ short binary64 = 5
 counted : ((2 * 2 ^ 93 + 2) * (2 ^ 200 + 1)) * (2 ^ 64 + 2) * 2 ^ 62 * 2 ^ 64 ≤ ((2 * 2 ^ 93) * 2 ^ 200) * (2 ^ 64 - 8) * (2 ^ 62 - 1) * (2 ^ 64 + 16)
 counted = lit≤ tt
 
-counted' : (f : Format) → ((2 * 2 ^ 81) * less f * (2 ^ 93 + 1)) * 2 ^ 64 * (2 ^ 62 + 1) * 2 ^ 64 ≤ ((2 * (2 ^ 81 - 1)) * (less f - 1) * 2 ^ 93) * 2 ^ 64 * 2 ^ 62 * (2 ^ 64 + short f)
+counted' : (f : Format) → ((2 * 2 ^ 81) * less f * (2 ^ 93 + 1)) * 2 ^ 64 * (2 ^ 62 + 1) * 2 ^ 64 ≤ ((2 * (2 ^ 81 - 1)) * (less
+    f - 1) * 2 ^ 93) * 2 ^ 64 * 2 ^ 62 * (2 ^ 64 + short f)
 counted' binary32 = lit≤ tt
 counted' binary64 = lit≤ tt
 
@@ -136,7 +137,7 @@ near-row f i x r p za R lz lo hi =
 
 -- S at z = (M - 2 ^ 62) / (M + 2 ^ 62), for what the core does with M
 pub near-at : (f : Format) (M : ℕ) → 2 ^ 62 ≤ M → M ≤ 2 ^ 63
-    → Near (index M * N) (below f (gap (index M) M)) (error f) (Sn (M - 2 ^ 62) (M + 2 ^ 62)) (Sd (M + 2 ^ 62))
+    → Near (index M * N) (lnBelow f (gap (index M) M)) (error f) (Sn (M - 2 ^ 62) (M + 2 ^ 62)) (Sd (M + 2 ^ 62))
 unfolding gap
 near-at f M l h =
     let i = index M in

@@ -1,4 +1,4 @@
--- `below`, the chain in fixed point, against the polynomial l: never above it, and at most two units below. Assumes nothing.
+-- `lnBelow`, the chain in fixed point, against the polynomial l: never above it, and at most two units below. Assumes nothing.
 use mathlib.Core.Path.{_≡_, refl, ap}
 use mathlib.Core.List.{List, [], _∷_}
 use Prim.Native.Nat.{ℕ, zero, _+_, _*_, _/_, _^_, _≤_, _<_}
@@ -6,7 +6,7 @@ use native.Mathlib.Nat.{mul-le-mul-left, mul-le-mul-right, le-of-mul-le-mul-left
 use native.Mathlib.Omega.{arith}
 use lib.Dec.{T, lit<, lit≤}
 use lib.Ieee.{Format, binary32, binary64}
-use Rattle.kernels.specs.Core.{downs, horner, below}
+use Rattle.kernels.specs.Core.{downs, horner, lnBelow}
 use Rattle.table.proofs.Exact.Poly.{h, scale}
 use Rattle.table.proofs.Exact.Laws.{sub, fits, near, h-scale, h-shift}
 use Rattle.table.proofs.Exact.Below.{deg, dL, tcoef}
@@ -22,8 +22,8 @@ horner-is (c ∷ cs) x = ap (λ (y : ℕ). c + x * y / 2 ^ 64) (horner-is cs x)
 abbrev pub lg : Format → (g w : ℕ) → ℕ
 lg f g w = g * fx (downs f) g w / 2 ^ 63
 
-pub below-is : (f : Format) (g : ℕ) → below f g ≡ lg f g (2 ^ 64)
-unfolding below
+pub below-is : (f : Format) (g : ℕ) → lnBelow f g ≡ lg f g (2 ^ 64)
+unfolding lnBelow
 below-is f g = ap (λ (y : ℕ). g * y / 2 ^ 63) (horner-is (downs f) g)
 
 -- the coefficients are cut: none is above its fraction, and together they are at most two units below

@@ -14,7 +14,7 @@ use Rattle.table.proofs.Exact.Series.{scoef, dS}
 use Rattle.table.proofs.Exact.Frac.{h-homog}
 use Rattle.table.proofs.Exact.Odds.{odds-series}
 use Rattle.soft.proofs.Rounding.Place.{normalised-lt, normalised-ge, size-pos, digits63}
-use Rattle.kernels.specs.Core.{gap, below, index, moved}
+use Rattle.kernels.specs.Core.{gap, lnBelow, index, moved}
 use Rattle.laws.proofs.Distances.logarithm.Sum.{Sn, Sd, dS-pos}
 use Rattle.laws.proofs.Distances.logarithm.Core.{error, Near, near-at}
 
@@ -76,13 +76,13 @@ plus-is : (m h k t : ℕ) → k * h ≡ t → m * k + t ≡ k * (m + h)
 plus-is m h k t e = omega (arith, e)
 
 pub core-near : (f : Format) (m : ℕ) → zero < m → m < 2 ^ 63
-    → Near (index (moved m) * N) (below f (gap (index (moved m)) (moved m))) (error f) (seriesNum m) (seriesDen m)
+    → Near (index (moved m) * N) (lnBelow f (gap (index (moved m)) (moved m))) (error f) (seriesNum m) (seriesDen m)
 core-near f m z l =
     let k = 2 ^ (63 - size m) in
     let M = moved m in
     let e = lead-moved m z l in
     let a = m - lead m in
     let b = m + lead m in
-    same (oddFact 23) (k ^ 47 * dS) (Sn (k * a) (k * b)) (Sd (k * b)) (seriesNum m) (seriesDen m) (index M * N) (below f (gap (index M) M)) (error f)
+    same (oddFact 23) (k ^ 47 * dS) (Sn (k * a) (k * b)) (Sd (k * b)) (seriesNum m) (seriesDen m) (index M * N) (lnBelow f (gap (index M) M)) (error f)
     (mul-pos (one-le-pow 47 k (pow-pos (63 - size m))) dS-pos) (num-is k a b) (den-is k b)
     (rw (minus-is m (lead m) k (2 ^ 62) e, plus-is m (lead m) k (2 ^ 62) e) at (near-at f M (normalised-ge m z l) (le-of-lt (normalised-lt m l))))

@@ -15,7 +15,7 @@ use Rattle.table.specs.Exact.{N, lead, seriesNum, seriesDen, Signed, L}
 use Rattle.table.proofs.Exact.Odds.{oddFact-pos}
 use Rattle.soft.proofs.Rounding.Place.{normalised-lt, normalised-ge}
 use Rattle.kernels.specs.Core as Core
-use Rattle.kernels.specs.Core.{gap, below, index, moved, Fixed, logarithm}
+use Rattle.kernels.specs.Core.{gap, lnBelow, index, moved, Fixed, logarithm}
 use Rattle.laws.proofs.Distances.logarithm.Horner.{below-is, g-le-lg}
 use Rattle.laws.proofs.Distances.logarithm.Table.{found, entry-0}
 use Rattle.laws.proofs.Distances.logarithm.Core.{error, Near}
@@ -26,7 +26,8 @@ use Rattle.laws.proofs.Distances.logarithm.Moved.{in-63, digits-in, cor
 moved-room : (f : Format) (m : ℕ) → m < 2 ^ prec f → moved m + 2 ^ (63 - prec f) ≤ 2 ^ 63
 moved-room f m l =
     le-trans (fit m (2 ^ (63 - size m)) (2 ^ (63 - prec f)) (2 ^ size m) (size-lt m) (pow-mono (more (size m) (prec f) (size-le m (prec f) l))))
-    (subst (λ (y : ℕ). 2 ^ size m * 2 ^ (63 - size m) ≤ y) (sym (pow-add 2 (size m) (63 - size m)) ∙ ap (λ (y : ℕ). 2 ^ y) (back (size m) (le-trans (size-le m (prec f) l) (in-63 f)))) (omega arith))
+    (subst (λ (y : ℕ). 2 ^ size m * 2 ^ (63 - size m) ≤ y)
+    (sym (pow-add 2 (size m) (63 - size m)) ∙ ap (λ (y : ℕ). 2 ^ y) (back (size m) (le-trans (size-le m (prec f) l) (in-63 f)))) (omega arith))
   where
     more : (s p : ℕ) → s ≤ p → 63 - p ≤ 63 - s
     more s p l = omega arith
@@ -56,16 +57,16 @@ end-gap M k l = rw entry-0 (rw (whole M) (omega arith))
         twice : (M : ℕ) → M * 2 ^ 62 ≡ 2 * M * 2 ^ 61
         twice M = omega arith
 
-below-ge : (f : Format) (g : ℕ) → g ≤ below f g
+below-ge : (f : Format) (g : ℕ) → g ≤ lnBelow f g
 below-ge f g = rw (below-is f g) (g-le-lg f g (2 ^ 64))
 
-far : (f : Format) (M i : ℕ) → M + 2 ^ (63 - prec f) ≤ 2 ^ 63 → (i ≡ 256) ⊎ (i < 256) → error f < (256 - i) * N + 256 * below f (gap i M)
+far : (f : Format) (M i : ℕ) → M + 2 ^ (63 - prec f) ≤ 2 ^ 63 → (i ≡ 256) ⊎ (i < 256) → error f < (256 - i) * N + 256 * lnBelow f (gap i M)
 far f M i l (inl e) =
-    rw e (lt-of-lt-of-le (room f) (last (2 * 2 ^ (63 - prec f)) (gap 256 M) (below f (gap 256 M)) ((256 - 256) * N) (end-gap M (2 ^ (63 - prec f)) l) (below-ge f (gap 256 M))))
+    rw e (lt-of-lt-of-le (room f) (last (2 * 2 ^ (63 - prec f)) (gap 256 M) (lnBelow f (gap 256 M)) ((256 - 256) * N) (end-gap M (2 ^ (63 - prec f)) l) (below-ge f (gap 256 M))))
   where
     last : (a g b c : ℕ) → a ≤ g → g ≤ b → 256 * a ≤ c + 256 * b
     last a g b c p q = omega arith
-far f M i l (inr h) = lt-of-lt-of-le (error-N f) (last i N (256 * below f (gap i M)) h)
+far f M i l (inr h) = lt-of-lt-of-le (error-N f) (last i N (256 * lnBelow f (gap i M)) h)
   where
     last : (i n c : ℕ) → i < 256 → n ≤ (256 - i) * n + c
     last i n c h = omega (arith, mul-le-mul-right n (one i h))
@@ -126,7 +127,7 @@ yes : (b : Bool) → T b → true ≡ b
 yes true t = refl
 yes false t = absurd t
 
-close : (f : Format) (k : ℤ) (i l n d : ℕ) → i ≤ 256 → Near (i * N) l (error f) n d → 2 ^ 64 * n < N * d → LogNear f (Core.logAt k i l) (Exact.logAt k n d)
+close : (f : Format) (k : ℤ) (i l n d : ℕ) → i ≤ 256 → Near (i * N) l (error f) n d → 2 ^ 64 * n < N * d → LogNear f (Core.fixedLog k i l) (Exact.logAt k n d)
 close f (pos k) i l n d h r s =
     let p = k * N * d + 2 ^ 64 * n in
     let u = p - 0 + (0 - p) in
@@ -161,7 +162,7 @@ unfolding logarithm L
 logarithm-near f m e z l =
     let M = moved m in
     let i = index M in
-    let g = below f (gap i M) in
+    let g = lnBelow f (gap i M) in
     let h = digits-in f m l in
     let r = core-near f m z h in
     let F = found M (normalised-ge m z h) (le-of-lt (normalised-lt m h)) in

@@ -10,15 +10,16 @@ use lib.Pow.{pow-add}
 use Rattle.soft.proofs.Rounding.Pattern.{pow-lt-back, pow-le-back}
 use Rattle.soft.proofs.Rounding.Place.{normalised-lt, normalised-ge}
 use Rattle.kernels.specs.Core as Core
-use Rattle.kernels.specs.Core.{gap, below, index, moved, logarithm}
+use Rattle.kernels.specs.Core.{gap, lnBelow, index, moved, logarithm}
 use Rattle.laws.proofs.Distances.logarithm.Sum.{Ln, Ld, Ld-pos, L-small}
 use Rattle.laws.proofs.Distances.logarithm.Horner.{lg, below-is, lg-le}
 use Rattle.laws.proofs.Distances.logarithm.Table.{found}
 use Rattle.laws.proofs.Distances.logarithm.Core.{gap-small}
 use Rattle.laws.proofs.Distances.logarithm.Moved.{lead-le, digits-in}
 
-below-small : (f : Format) (g : ℕ) → g * 2560 ≤ 7 * 2 ^ 64 → 256 * below f g ≤ 2 ^ 64
-below-small f g l = rw (below-is f g) (through (lg f g (2 ^ 64)) (Ln f g (2 ^ 64)) (Ld f (2 ^ 64)) (2 ^ 64) (Ld-pos f (2 ^ 64) (lit≤ tt)) (lg-le f g (2 ^ 64) l) (L-small f g (2 ^ 64) l))
+below-small : (f : Format) (g : ℕ) → g * 2560 ≤ 7 * 2 ^ 64 → 256 * lnBelow f g ≤ 2 ^ 64
+below-small f g l = rw (below-is f g) (through (lg f g (2 ^ 64)) (Ln f g (2 ^ 64)) (Ld f (2 ^ 64)) (2 ^ 64) (Ld-pos f (2 ^ 64) (lit≤ tt))
+    (lg-le f g (2 ^ 64) l) (L-small f g (2 ^ 64) l))
   where
     through : (x n d w : ℕ) → zero < d → x * d ≤ n * w → n * 256 ≤ d → 256 * x ≤ w
     through x n d w z a b = le-of-mul-le-mul-right {k = d} (omega (arith, mul-le-mul-right w b)) z
@@ -28,7 +29,7 @@ abbrev Exponent : ℤ → Type 0
 Exponent (pos k) = k < 1024
 Exponent (negsuc k) = k < 1074
 
-mag-at : (k : ℤ) (i l : ℕ) → i ≤ 256 → 256 * l ≤ 2 ^ 64 → Exponent k → Core.logAt k i l .mag < 2 ^ 82
+mag-at : (k : ℤ) (i l : ℕ) → i ≤ 256 → 256 * l ≤ 2 ^ 64 → Exponent k → Core.fixedLog k i l .mag < 2 ^ 82
 mag-at (pos k) i l a b h = omega arith
 mag-at (negsuc k) i l a b h = omega arith
 
@@ -55,7 +56,8 @@ exponent f m (pos a) z l h = sum (size m - 1) a (emax f) (emax-le f) (top (size 
     sum b a t p q = omega arith
 exponent f m (negsuc a) z l h =
     split b a (ltb b (suc a)) (ltb→lt b (suc a)) (least a (low f) (low-le f) (pow-le-back (suc a) (low f) l))
-    (λ (t : T (not (ltb b (suc a)))). most b a (emax f) (emax-le f) (nltb→le b (suc a) t) (pow-lt-back b (suc (emax f) + suc a) (rw (pow-add 2 (suc (emax f)) (suc a)) (lt-of-le-of-lt (lead-le m z) (rw mul-one at h)))))
+    (λ (t : T (not (ltb b (suc a)))). most b a (emax f) (emax-le f) (nltb→le b (suc a) t)
+    (pow-lt-back b (suc (emax f) + suc a) (rw (pow-add 2 (suc (emax f)) (suc a)) (lt-of-le-of-lt (lead-le m z) (rw mul-one at h)))))
   where
     b : ℕ
     b = size m - 1
@@ -74,4 +76,4 @@ mag-lt f m e z l d u =
     let h = digits-in f m l in
     let lo = normalised-ge m z h in
     let hi = le-of-lt (normalised-lt m h) in
-    mag-at (e +ℤ pos (size m - 1)) i (below f (gap i M)) (found M lo hi .last) (below-small f (gap i M) (gap-small M lo hi)) (exponent f m e z d u)
+    mag-at (e +ℤ pos (size m - 1)) i (lnBelow f (gap i M)) (found M lo hi .last) (below-small f (gap i M) (gap-small M lo hi)) (exponent f m e z d u)

@@ -141,7 +141,8 @@ little binary64 = lit≤ tt
 pub L-small : (f : Format) (g w : ℕ) → g * 2560 ≤ 7 * w → Ln f g w * 256 ≤ Ld f w
 L-small f g w l =
     let n = suc (deg f) in
-    le-of-mul-le-mul-right {k = 2560 ^ n} (small (Ln f g w) (2560 ^ n) (h n (lcoef f) 7 2560) (w ^ n) (dL f) (h-mono n (lcoef f) g w 7 2560 l) (little f)) (one-le-pow n 2560 (lit< tt))
+    le-of-mul-le-mul-right {k = 2560 ^ n} (small (Ln f g w) (2560 ^ n) (h n (lcoef f) 7 2560) (w ^ n) (dL f) (h-mono n (lcoef f) g w 7 2560 l)
+    (little f)) (one-le-pow n 2560 (lit< tt))
   where
     small : (y e u p v : ℕ) → y * e ≤ u * p → u * 256 ≤ v * e → y * 256 * e ≤ v * p * e
     small y e u p v m n = omega (arith, mul-le-mul-right p n)

@@ -5,14 +5,13 @@ use Prim.Native.Nat.{ℕ, zero, _+_, _-_, _*_, _/_, _%_, _^_, _≤_, _<_}
 use native.Mathlib.Nat.{mul-left-comm, mul-le-mul-right, mul-lt-mul-of-pos-left, lt-of-mul-lt-mul-right, mul-pos, div-add-mod', mod-lt, div-mul-le-self, lt-div-mul-add}
 use native.Mathlib.Omega.{arith}
 use lib.Dec.{lit<}
-use lib.Pow.{pow-add, pow-pos}
+use lib.Pow.{pow-add}
 use Rattle.table.specs.Exact.{Frac, N, P, E, floorK, ceilK}
 use Rattle.table.proofs.Exact.Laws.{pow-mul}
 use Rattle.table.proofs.Exact.Frac.{h-homog}
 use Rattle.table.proofs.Exact.Chain.{ac}
 use Rattle.table.proofs.Exact.Terms.{pcoef, f23}
 use Rattle.table.proofs.Exact.Taylor.{P-num, P-den}
-use Rattle.table.proofs.Exact.Near.{P-den-pos}
 use Rattle.kernels.specs.Core.{BIAS}
 use Rattle.laws.proofs.Distances.power.Steps.{unit, span, value, denom}
 
@@ -112,13 +111,6 @@ placed-down a b z l =
 pub placed : (neg : Bool) (a b : ℕ) → zero < b → a * 2 ^ 72 ≤ BIAS * b → Placed b (place neg a b) (E neg a b)
 placed false a b z l = placed-up a b z
 placed true a b z l = placed-down a b z l
-
-pub E-den-pos : (neg : Bool) (a b : ℕ) → zero < b → zero < E neg a b .den
-unfolding E
-E-den-pos false a b z = rw (P-den (a * 2 ^ 64 - floorK a b * (b * N)) (b * 2 ^ 64)) (P-den-pos (b * 2 ^ 64) (mul-pos z (lit< tt)))
-E-den-pos true a b z =
-    rw (P-den (ceilK a b * (b * N) - a * 2 ^ 64) (b * 2 ^ 64))
-    (mul-pos (pow-pos (ceilK a b)) (P-den-pos (b * 2 ^ 64) (mul-pos z (lit< tt))))
 
 -- ---- the kernel's argument Y / 2 ^ 72: K ln 2, and what it has over that
 abbrev pub whole : ℕ → ℕ

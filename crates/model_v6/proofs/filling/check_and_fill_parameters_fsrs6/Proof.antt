@@ -1,10 +1,10 @@
-use Rattle.domain.specs.Weights.{allFinite}
 use mathlib.Core.Path.{sym, _∙_}
-use borrow.Author.Tests.{not-true, not-false}
-use Rattle.domain.proofs.weights.All.{both, not-left, not-right}
-use Rattle.domain.proofs.weights.Accepted.{accepted-box, refused-box}
-use Rattle.model_v6.proofs.filling.Fills.{no-length, outside, inside}
 use borrow.Author.Needs.{needs}
+use borrow.Author.Tests.{not-true, not-false}
+use Rattle.domain.proofs.weights.Accepted.{accepted-box, refused-box}
+use Rattle.domain.proofs.weights.All.{both, not-left, not-right}
+use Rattle.domain.specs.Weights.{allFinite}
+use Rattle.model_v6.proofs.filling.Fills.{no-length, outside, inside}
 use Rattle.model_v6.proofs.filling.check_and_fill_parameters_fsrs6.Statement.{statement}
 use Rattle.model_v6.proofs.filling.check_and_fill_parameters_fsrs6.Tie as tie
 
@@ -25,8 +25,11 @@ refused-requires-2 c κs = search needs
 
 returns-2 : tie.Need-returns-2
 returns-2 c =
+    let finite = c .before .before in
+    let length = finite .before .before in
     c .refused2 .ensures ∙
-    outside _ (sym (c .before .before .before .before .is-length .ensures) ∙ not-false _ (c .before .before .before .if1 .left)) (not-left _ _ (sym (c .before .before .all-finite .ensures) ∙ not-true _ (c .before .if2 .taken)))
+    outside _ (sym (length .is-length .ensures) ∙ not-false _ (finite .before .if1 .left))
+    (not-left _ _ (sym (finite .all-finite .ensures) ∙ not-true _ (c .before .if2 .taken)))
 
 fill-requires : tie.Need-fill-requires
 fill-requires c κs = sym (c .before .before .before .is-length .ensures) ∙ not-false _ (c .before .before .if1 .left)
@@ -42,16 +45,24 @@ refused-requires-3 c κs = search needs
 
 returns-3 : tie.Need-returns-3
 returns-3 c =
+    let filled = c .before .before .before .before in
+    let finite = filled .before .before in
+    let length = finite .before .before in
     c .refused3 .ensures ∙
-    outside _ (sym (c .before .before .before .before .before .before .before .before .is-length .ensures) ∙ not-false _ (c .before .before .before .before .before .before .before .if1 .left))
-    (not-right (allFinite (c .before .before .before .before .before .before .before .before .before .before .args .parameters .now)) _ (rw (← c .before .before .before .before .fill .ensures) (refused-box _ (search needs) (λ e. c .before .if3 .taken (c .before .before .weights-refusal .ensures ∙ e)))))
+    outside _ (sym (length .is-length .ensures) ∙ not-false _ (finite .before .if1 .left))
+    (not-right (allFinite (length .before .before .args .parameters .now)) _
+    (rw (← filled .fill .ensures)
+    (refused-box _ (search needs) (λ e. c .before .if3 .taken (c .before .before .weights-refusal .ensures ∙ e)))))
 
 returns-4 : tie.Need-returns-4
 returns-4 c =
-    rw (c .before .before .before .fill .ensures)
-    (inside _ (sym (c .before .before .before .before .before .before .before .is-length .ensures) ∙ not-false _ (c .before .before .before .before .before .before .if1 .left))
-    (both _ _ (sym (c .before .before .before .before .before .all-finite .ensures) ∙ not-false _ (c .before .before .before .before .if2 .left))
-    (rw (← c .before .before .before .fill .ensures) (accepted-box _ (sym (c .before .weights-refusal .ensures) ∙ c .if3 .left)))))
+    let filled = c .before .before .before in
+    let finite = filled .before .before in
+    let length = finite .before .before in
+    rw (filled .fill .ensures)
+    (inside _ (sym (length .is-length .ensures) ∙ not-false _ (finite .before .if1 .left))
+    (both _ _ (sym (finite .all-finite .ensures) ∙ not-false _ (filled .before .if2 .left))
+    (rw (← filled .fill .ensures) (accepted-box _ (sym (c .before .weights-refusal .ensures) ∙ c .if3 .left)))))
 
 pub check-and-fill-parameters-fsrs6-spec : {M : Type 1} → statement M
 check-and-fill-parameters-fsrs6-spec =

@@ -1,10 +1,10 @@
 use Prim.Native.Nat.{ℕ}
-use mathlib.Core.Path.{_≡_, _∙_}
 use mathlib.Core.Bool.{true}
+use mathlib.Core.Path.{_≡_, _∙_}
+use borrow.Author.Needs.{needs}
 use borrow.Author.Tests.{eq-eqb, ne-eqb, eqb-true}
 use Rattle.domain.proofs.weights.Copy.{copy-whole}
 use Rattle.model_v6.specs.Filling.{lengthGood, fillDef}
-use borrow.Author.Needs.{needs}
 use Rattle.model_v6.proofs.filling.fill.Statement.{statement}
 use Rattle.model_v6.proofs.filling.fill.Tie as tie
 
@@ -31,7 +31,8 @@ filled-19-requires c κs = search needs
 returns-3 : tie.Need-returns-3
 unfolding fillDef
 returns-3 c =
-    rw (ne-eqb _ 0 (c .before .before .before .if1 .left), ne-eqb _ 17 (c .before .before .if2 .left), eq-eqb _ 19 (c .before .if3 .taken)) (c .filled-19 .ensures)
+    let b = c .before .before in
+    rw (ne-eqb _ 0 (b .before .if1 .left), ne-eqb _ 17 (b .if2 .left), eq-eqb _ 19 (c .before .if3 .taken)) (c .filled-19 .ensures)
 
 copy-weights-requires : tie.Need-copy-weights-requires
 copy-weights-requires c κs = search needs
@@ -39,8 +40,11 @@ copy-weights-requires c κs = search needs
 returns-4 : tie.Need-returns-4
 unfolding fillDef
 returns-4 c =
-    rw (ne-eqb _ 0 (c .before .before .before .if1 .left), ne-eqb _ 17 (c .before .before .if2 .left), ne-eqb _ 19 (c .before .if3 .left))
-    (c .copy-weights .ensures ∙ copy-whole _ (full _ (c .before .before .before .before .before .pre) (c .before .before .before .if1 .left) (c .before .before .if2 .left) (c .before .if3 .left)))
+    let b = c .before .before in
+    let a = b .before in
+    rw (ne-eqb _ 0 (a .if1 .left), ne-eqb _ 17 (b .if2 .left), ne-eqb _ 19 (c .before .if3 .left))
+    (c .copy-weights .ensures ∙
+    copy-whole _ (full _ (a .before .before .pre) (a .if1 .left) (b .if2 .left) (c .before .if3 .left)))
 
 pub fill-spec : {M : Type 1} → statement M
 fill-spec =

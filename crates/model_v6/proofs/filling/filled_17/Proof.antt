@@ -1,5 +1,5 @@
-use Rattle.model_v6.proofs.filling.Lists.{stores-17}
 use borrow.Author.Needs.{needs}
+use Rattle.model_v6.proofs.filling.Lists.{stores-17}
 use Rattle.model_v6.proofs.filling.filled_17.Statement.{statement}
 use Rattle.model_v6.proofs.filling.filled_17.Tie as tie
 
@@ -38,8 +38,9 @@ array-write-w-4 c = search needs
 
 returns : tie.Need-returns
 returns c =
-    rw (c .copy-weights .ensures, c .before .before .fma-f322 .ensures, c .before .before .before .ln-f32 .ensures, c .before .before .before .before .fma-f32 .ensures)
-    (stores-17 _ (c .before .before .before .before .before .before .before .before .pre))
+    let ln = c .before .before .before in
+    rw (c .copy-weights .ensures, c .before .before .fma-f322 .ensures, ln .ln-f32 .ensures, ln .before .fma-f32 .ensures)
+    (stores-17 _ (ln .before .before .before .before .before .pre))
 
 pub filled-17-spec : {M : Type 1} → statement M
 filled-17-spec =

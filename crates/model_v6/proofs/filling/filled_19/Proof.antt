@@ -1,5 +1,5 @@
-use Rattle.model_v6.proofs.filling.Lists.{stores-19}
 use borrow.Author.Needs.{needs}
+use Rattle.model_v6.proofs.filling.Lists.{stores-19}
 use Rattle.model_v6.proofs.filling.filled_19.Statement.{statement}
 use Rattle.model_v6.proofs.filling.filled_19.Tie as tie
 

@@ -12,7 +12,7 @@ both-requires : tie.Need-both-requires
 both-requires c κs = search needs
 
 returns : tie.Need-returns
-returns c = cc
+returns c = rw (c .both .ensures, c .before .is-finite2 .ensures, c .before .before .is-finite .ensures)
 
 pub is-finite-state-spec : {M : Type 1} → statement M
 is-finite-state-spec =

@@ -1,6 +1,7 @@
-use Rattle.model_v6.proofs.answers.Answering.{answers-copied}
-use Rattle.model_v6.proofs.Next.{next-refused, next-accepted}
 use borrow.Author.Needs.{needs}
+use Rattle.model_v6.specs.Answers.{nextStateScalar}
+use Rattle.model_v6.proofs.Next.{next-refused, next-accepted}
+use Rattle.model_v6.proofs.answers.Answering.{answers-copied}
 use Rattle.model_v6.proofs.state.next_state_scalar.Statement.{statement}
 use Rattle.model_v6.proofs.state.next_state_scalar.Tie as tie
 
@@ -17,9 +18,12 @@ scalar-refusal-requires : tie.Need-scalar-refusal-requires
 scalar-refusal-requires c κs = search needs
 
 returns : tie.Need-returns
+unfolding nextStateScalar
 returns c =
-    rw (← c .before .before .before .before .is-finite-state .ensures, ← c .before .before .before .is-day .ensures, ← c .before .before .both .ensures)
-    (next-refused _ _ _ _ (c .before .scalar-refusal .ensures) (c .if1 .taken))
+    let number = c .before in
+    let tests = number .before in
+    rw (← tests .before .before .is-finite-state .ensures, ← tests .before .is-day .ensures, ← tests .both .ensures)
+    (next-refused _ _ _ _ (number .scalar-refusal .ensures) (c .if1 .taken))
 
 copy-weights-requires : tie.Need-copy-weights-requires
 copy-weights-requires c κs = search needs
@@ -28,10 +32,20 @@ next-state-requires : tie.Need-next-state-requires
 next-state-requires c κs = search needs
 
 returns-2 : tie.Need-returns-2
+unfolding nextStateScalar
 returns-2 c =
-    let e = c .before .before .before .before .scalar-refusal .ensures in
-    let h = c .before .before .before .if1 .left in
-    rw (← c .before .before .before .before .before .before .before .is-finite-state .ensures, ← c .before .before .before .before .before .before .is-day .ensures, ← c .before .before .before .before .before .both .ensures, c .next-state .ensures, answers-copied _ _ _ _ e h (c .before .before .copy-weights .ensures))
+    let copy = c .before .before in
+    let number = copy .before .before in
+    let tests = number .before in
+    let e = number .scalar-refusal .ensures in
+    let h = copy .before .if1 .left in
+    rw (
+      ← tests .before .before .is-finite-state .ensures,
+      ← tests .before .is-day .ensures,
+      ← tests .both .ensures,
+      c .next-state .ensures,
+      answers-copied _ _ _ _ e h (copy .copy-weights .ensures),
+    )
     (next-accepted _ _ _ _ e h)
 
 pub next-state-scalar-spec : {M : Type 1} → statement M

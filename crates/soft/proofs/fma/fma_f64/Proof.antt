@@ -14,31 +14,81 @@ is-finite-requires : tie.Need-is-finite-requires
 is-finite-requires c κs = search needs
 
 returns : tie.Need-returns
-returns c = endless-left binary64 (c .before .before .args .x) (c .before .before .args .y) (c .before .before .args .z) (no (c .before .before .args .x) (c .before .is-finite .result) (c .before .is-finite .ensures) (c .if1 .taken))
+returns c =
+    let f1 = c .before in
+    let s = f1 .before in
+    endless-left binary64 (s .args .x) (s .args .y) (s .args .z) (no (s .args .x) (f1 .is-finite .result) (f1 .is-finite .ensures) (c .if1 .taken))
 
 is-finite-requires-2 : tie.Need-is-finite-requires-2
 is-finite-requires-2 c κs = search needs
 
 returns-2 : tie.Need-returns-2
-returns-2 c = endless-right binary64 (c .before .before .before .before .args .x) (c .before .before .before .before .args .y) (c .before .before .before .before .args .z) (yes (c .before .before .before .before .args .x) (c .before .before .before .is-finite .result) (c .before .before .before .is-finite .ensures) (c .before .before .if1 .left)) (no (c .before .before .before .before .args .y) (c .before .is-finite2 .result) (c .before .is-finite2 .ensures) (c .if2 .taken))
+returns-2 c =
+    let f2 = c .before in
+    let i1 = f2 .before in
+    let f1 = i1 .before in
+    let s = f1 .before in
+    endless-right binary64 (s .args .x) (s .args .y) (s .args .z) (yes (s .args .x) (f1 .is-finite .result) (f1 .is-finite .ensures) (i1 .if1 .left))
+    (no (s .args .y) (f2 .is-finite2 .result) (f2 .is-finite2 .ensures) (c .if2 .taken))
 
 is-finite-requires-3 : tie.Need-is-finite-requires-3
 is-finite-requires-3 c κs = search needs
 
 returns-3 : tie.Need-returns-3
-returns-3 c = endless-third binary64 (c .before .before .before .before .before .before .args .x) (c .before .before .before .before .before .before .args .y) (c .before .before .before .before .before .before .args .z) (yes (c .before .before .before .before .before .before .args .x) (c .before .before .before .before .before .is-finite .result) (c .before .before .before .before .before .is-finite .ensures) (c .before .before .before .before .if1 .left)) (yes (c .before .before .before .before .before .before .args .y) (c .before .before .before .is-finite2 .result) (c .before .before .before .is-finite2 .ensures) (c .before .before .if2 .left)) (no (c .before .before .before .before .before .before .args .z) (c .before .is-finite3 .result) (c .before .is-finite3 .ensures) (c .if3 .taken))
+returns-3 c =
+    let f3 = c .before in
+    let i2 = f3 .before in
+    let f2 = i2 .before in
+    let i1 = f2 .before in
+    let f1 = i1 .before in
+    let s = f1 .before in
+    endless-third binary64 (s .args .x) (s .args .y) (s .args .z) (yes (s .args .x) (f1 .is-finite .result) (f1 .is-finite .ensures) (i1 .if1 .left))
+    (yes (s .args .y) (f2 .is-finite2 .result) (f2 .is-finite2 .ensures) (i2 .if2 .left))
+    (no (s .args .z) (f3 .is-finite3 .result) (f3 .is-finite3 .ensures) (c .if3 .taken))
 
 returns-4 : tie.Need-returns-4
 unfolding ofBits
-returns-4 c = zero-left binary64 (c .before .before .before .before .before .before .before .args .x) (c .before .before .before .before .before .before .before .args .y) (c .before .before .before .before .before .before .before .args .z) (yes (c .before .before .before .before .before .before .before .args .x) (c .before .before .before .before .before .before .is-finite .result) (c .before .before .before .before .before .before .is-finite .ensures) (c .before .before .before .before .before .if1 .left)) (yes (c .before .before .before .before .before .before .before .args .y) (c .before .before .before .before .is-finite2 .result) (c .before .before .before .before .is-finite2 .ensures) (c .before .before .before .if2 .left)) (yes (c .before .before .before .before .before .before .before .args .z) (c .before .before .is-finite3 .result) (c .before .before .is-finite3 .ensures) (c .before .if3 .left)) (c .if4 .taken)
+returns-4 c =
+    let i3 = c .before in
+    let f3 = i3 .before in
+    let i2 = f3 .before in
+    let f2 = i2 .before in
+    let i1 = f2 .before in
+    let f1 = i1 .before in
+    let s = f1 .before in
+    zero-left binary64 (s .args .x) (s .args .y) (s .args .z) (yes (s .args .x) (f1 .is-finite .result) (f1 .is-finite .ensures) (i1 .if1 .left))
+    (yes (s .args .y) (f2 .is-finite2 .result) (f2 .is-finite2 .ensures) (i2 .if2 .left))
+    (yes (s .args .z) (f3 .is-finite3 .result) (f3 .is-finite3 .ensures) (i3 .if3 .left)) (c .if4 .taken)
 
 returns-5 : tie.Need-returns-5
 unfolding ofBits
-returns-5 c = zero-right binary64 (c .before .before .before .before .before .before .before .before .args .x) (c .before .before .before .before .before .before .before .before .args .y) (c .before .before .before .before .before .before .before .before .args .z) (yes (c .before .before .before .before .before .before .before .before .args .x) (c .before .before .before .before .before .before .before .is-finite .result) (c .before .before .before .before .before .before .before .is-finite .ensures) (c .before .before .before .before .before .before .if1 .left)) (yes (c .before .before .before .before .before .before .before .before .args .y) (c .before .before .before .before .before .is-finite2 .result) (c .before .before .before .before .before .is-finite2 .ensures) (c .before .before .before .before .if2 .left)) (yes (c .before .before .before .before .before .before .before .before .args .z) (c .before .before .before .is-finite3 .result) (c .before .before .before .is-finite3 .ensures) (c .before .before .if3 .left)) (c .if5 .taken)
+returns-5 c =
+    let i3 = c .before .before in
+    let f3 = i3 .before in
+    let i2 = f3 .before in
+    let f2 = i2 .before in
+    let i1 = f2 .before in
+    let f1 = i1 .before in
+    let s = f1 .before in
+    zero-right binary64 (s .args .x) (s .args .y) (s .args .z) (yes (s .args .x) (f1 .is-finite .result) (f1 .is-finite .ensures) (i1 .if1 .left))
+    (yes (s .args .y) (f2 .is-finite2 .result) (f2 .is-finite2 .ensures) (i2 .if2 .left))
+    (yes (s .args .z) (f3 .is-finite3 .result) (f3 .is-finite3 .ensures) (i3 .if3 .left)) (c .if5 .taken)
 
 returns-6 : tie.Need-returns-6
 unfolding ofBits
-returns-6 c = zero-third binary64 (c .before .before .before .before .before .before .before .before .before .args .x) (c .before .before .before .before .before .before .before .before .before .args .y) (c .before .before .before .before .before .before .before .before .before .args .z) (yes (c .before .before .before .before .before .before .before .before .before .args .x) (c .before .before .before .before .before .before .before .before .is-finite .result) (c .before .before .before .before .before .before .before .before .is-finite .ensures) (c .before .before .before .before .before .before .before .if1 .left)) (yes (c .before .before .before .before .before .before .before .before .before .args .y) (c .before .before .before .before .before .before .is-finite2 .result) (c .before .before .before .before .before .before .is-finite2 .ensures) (c .before .before .before .before .before .if2 .left)) (yes (c .before .before .before .before .before .before .before .before .before .args .z) (c .before .before .before .before .is-finite3 .result) (c .before .before .before .before .is-finite3 .ensures) (c .before .before .before .if3 .left)) (c .before .before .if4 .left) (c .before .if5 .left) (c .if6 .taken)
+returns-6 c =
+    let i5 = c .before in
+    let i4 = i5 .before in
+    let i3 = i4 .before in
+    let f3 = i3 .before in
+    let i2 = f3 .before in
+    let f2 = i2 .before in
+    let i1 = f2 .before in
+    let f1 = i1 .before in
+    let s = f1 .before in
+    zero-third binary64 (s .args .x) (s .args .y) (s .args .z) (yes (s .args .x) (f1 .is-finite .result) (f1 .is-finite .ensures) (i1 .if1 .left))
+    (yes (s .args .y) (f2 .is-finite2 .result) (f2 .is-finite2 .ensures) (i2 .if2 .left))
+    (yes (s .args .z) (f3 .is-finite3 .result) (f3 .is-finite3 .ensures) (i3 .if3 .left)) (i4 .if4 .left) (i5 .if5 .left) (c .if6 .taken)
 
 measure-requires : tie.Need-measure-requires
 measure-requires c κs = search needs
@@ -51,11 +101,38 @@ measure-requires-3 c κs = search needs
 
 fused-requires : tie.Need-fused-requires
 unfolding ofBits
-fused-requires c κs = (
-  operand-ready (c .before .before .before .before .before .before .before .before .before .before .before .before .args .x) (c .before .before .measure .result) (record { held = holds (c .before .before .before .before .before .before .before .before .before .before .before .before .good .0 .1); finite-is = (yes (c .before .before .before .before .before .before .before .before .before .before .before .before .args .x) (c .before .before .before .before .before .before .before .before .before .before .before .is-finite .result) (c .before .before .before .before .before .before .before .before .before .before .before .is-finite .ensures) (c .before .before .before .before .before .before .before .before .before .before .if1 .left)); measure-is = c .before .before .measure .ensures }) (c .before .before .before .before .before .if4 .left),
-  operand-ready (c .before .before .before .before .before .before .before .before .before .before .before .before .args .y) (c .before .measure2 .result) (record { held = holds (c .before .before .before .before .before .before .before .before .before .before .before .before .good .1 .0 .1); finite-is = (yes (c .before .before .before .before .before .before .before .before .before .before .before .before .args .y) (c .before .before .before .before .before .before .before .before .before .is-finite2 .result) (c .before .before .before .before .before .before .before .before .before .is-finite2 .ensures) (c .before .before .before .before .before .before .before .before .if2 .left)); measure-is = c .before .measure2 .ensures }) (c .before .before .before .before .if5 .left),
-  operand-ready (c .before .before .before .before .before .before .before .before .before .before .before .before .args .z) (c .measure3 .result) (record { held = holds (c .before .before .before .before .before .before .before .before .before .before .before .before .good .1 .1 .0 .1); finite-is = (yes (c .before .before .before .before .before .before .before .before .before .before .before .before .args .z) (c .before .before .before .before .before .before .before .is-finite3 .result) (c .before .before .before .before .before .before .before .is-finite3 .ensures) (c .before .before .before .before .before .before .if3 .left)); measure-is = c .measure3 .ensures }) (c .before .before .before .if6 .left),
-)
+fused-requires c κs =
+    let m2 = c .before in
+    let m1 = m2 .before in
+    let i6 = m1 .before in
+    let i5 = i6 .before in
+    let i4 = i5 .before in
+    let i3 = i4 .before in
+    let f3 = i3 .before in
+    let i2 = f3 .before in
+    let f2 = i2 .before in
+    let i1 = f2 .before in
+    let f1 = i1 .before in
+    let s = f1 .before in (
+      operand-ready (s .args .x) (m1 .measure .result) (record {
+        held = holds (s .good .0 .1);
+        finite-is = (yes (s .args .x) (f1 .is-finite .result) (f1 .is-finite .ensures) (i1 .if1 .left));
+        measure-is = m1 .measure .ensures;
+      })
+          (i4 .if4 .left),
+      operand-ready (s .args .y) (m2 .measure2 .result) (record {
+        held = holds (s .good .1 .0 .1);
+        finite-is = (yes (s .args .y) (f2 .is-finite2 .result) (f2 .is-finite2 .ensures) (i2 .if2 .left));
+        measure-is = m2 .measure2 .ensures;
+      })
+          (i5 .if5 .left),
+      operand-ready (s .args .z) (c .measure3 .result) (record {
+        held = holds (s .good .1 .1 .0 .1);
+        finite-is = (yes (s .args .z) (f3 .is-finite3 .result) (f3 .is-finite3 .ensures) (i3 .if3 .left));
+        measure-is = c .measure3 .ensures;
+      })
+          (i6 .if6 .left),
+    )
 
 halves-requires : tie.Need-halves-requires
 halves-requires c κs = c .before .fused .ensures .short
@@ -68,12 +145,34 @@ pack-wide-f64-requires c κs = search needs
 
 returns-7 : tie.Need-returns-7
 returns-7 c =
+    let e = c .before in
+    let h = e .before in
+    let u = h .before .before in
+    let m3 = u .before in
+    let m2 = m3 .before in
+    let m1 = m2 .before in
+    let i3 = m1 .before .before .before .before in
+    let f3 = i3 .before in
+    let i2 = f3 .before in
+    let f2 = i2 .before in
+    let i1 = f2 .before in
+    let f1 = i1 .before in
+    let s = f1 .before in
     c .pack-wide-f64 .ensures
-    ∙ fused-rounds binary64 (c .before .before .before .before .before .before .before .before .before .before .before .before .before .before .before .before .before .args .x) (c .before .before .before .before .before .before .before .before .before .before .before .before .before .before .before .before .before .args .y) (c .before .before .before .before .before .before .before .before .before .before .before .before .before .before .before .before .before .args .z) (c .before .before .before .before .before .before .before .measure .result) (c .before .before .before .before .before .before .measure2 .result) (c .before .before .before .before .before .measure3 .result)
-    (record { held = holds (c .before .before .before .before .before .before .before .before .before .before .before .before .before .before .before .before .before .good .0 .1); finite-is = (yes (c .before .before .before .before .before .before .before .before .before .before .before .before .before .before .before .before .before .args .x) (c .before .before .before .before .before .before .before .before .before .before .before .before .before .before .before .before .is-finite .result) (c .before .before .before .before .before .before .before .before .before .before .before .before .before .before .before .before .is-finite .ensures) (c .before .before .before .before .before .before .before .before .before .before .before .before .before .before .before .if1 .left)); measure-is = c .before .before .before .before .before .before .before .measure .ensures })
-    (record { held = holds (c .before .before .before .before .before .before .before .before .before .before .before .before .before .before .before .before .before .good .1 .0 .1); finite-is = (yes (c .before .before .before .before .before .before .before .before .before .before .before .before .before .before .before .before .before .args .y) (c .before .before .before .before .before .before .before .before .before .before .before .before .before .before .is-finite2 .result) (c .before .before .before .before .before .before .before .before .before .before .before .before .before .before .is-finite2 .ensures) (c .before .before .before .before .before .before .before .before .before .before .before .before .before .if2 .left)); measure-is = c .before .before .before .before .before .before .measure2 .ensures })
-    (record { held = holds (c .before .before .before .before .before .before .before .before .before .before .before .before .before .before .before .before .before .good .1 .1 .0 .1); finite-is = (yes (c .before .before .before .before .before .before .before .before .before .before .before .before .before .before .before .before .before .args .z) (c .before .before .before .before .before .before .before .before .before .before .before .before .is-finite3 .result) (c .before .before .before .before .before .before .before .before .before .before .before .before .is-finite3 .ensures) (c .before .before .before .before .before .before .before .before .before .before .before .if3 .left)); measure-is = c .before .before .before .before .before .measure3 .ensures })
-    (c .before .before .before .before .fused .result) (c .before .before .before .before .fused .ensures) (c .before .before .halves .result) (c .before .before .halves .ensures) _ (exponent-read 2254 (c .before .before .before .before .fused .result .places) (lit< tt) (c .before .before .before .before .fused .ensures .near) (c .before .exponent .result) (c .before .exponent .ensures))
+    ∙ fused-rounds binary64 (s .args .x) (s .args .y) (s .args .z) (m1 .measure .result) (m2 .measure2 .result) (m3 .measure3 .result)
+    (record { held = holds (s .good .0 .1); finite-is = (yes (s .args .x) (f1 .is-finite .result) (f1 .is-finite .ensures) (i1 .if1 .left)); measure-is = m1 .measure .ensures })
+    (record {
+      held = holds (s .good .1 .0 .1);
+      finite-is = (yes (s .args .y) (f2 .is-finite2 .result) (f2 .is-finite2 .ensures) (i2 .if2 .left));
+      measure-is = m2 .measure2 .ensures;
+    })
+    (record {
+      held = holds (s .good .1 .1 .0 .1);
+      finite-is = (yes (s .args .z) (f3 .is-finite3 .result) (f3 .is-finite3 .ensures) (i3 .if3 .left));
+      measure-is = m3 .measure3 .ensures;
+    })
+    (u .fused .result) (u .fused .ensures) (h .halves .result) (h .halves .ensures) _
+    (exponent-read 2254 (u .fused .result .places) (lit< tt) (u .fused .ensures .near) (e .exponent .result) (e .exponent .ensures))
 
 pub fma-f64-spec : {M : Type 1} → statement M
 fma-f64-spec =

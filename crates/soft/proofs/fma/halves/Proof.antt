@@ -30,8 +30,12 @@ sum-requires c κs = search needs
 
 returns : tie.Need-returns
 returns c =
-    let s = c .before .before .before in
-    joined (2 ^ 127) (valueOf (s .args .w)) (valueOf (c .before .before .shl .result)) (c .before .bit .result) (valueOf (c .sum .result)) (s .args .sticky) (lit< tt) (s .pre) (c .before .before .shl .ensures) (c .before .bit .ensures) (c .sum .ensures ∙ ap (λ (x : ℕ). (valueOf (c .before .before .shl .result) + x) % 2 ^ 128) (low-word (c .before .bit .result)))
+    let bit = c .before in
+    let up = bit .before in
+    let s = up .before in
+    joined (2 ^ 127) (valueOf (s .args .w)) (valueOf (up .shl .result)) (bit .bit .result) (valueOf (c .sum .result)) (s .args .sticky) (lit< tt)
+    (s .pre) (up .shl .ensures) (bit .bit .ensures) (c .sum .ensures
+    ∙ ap (λ (x : ℕ). (valueOf (up .shl .result) + x) % 2 ^ 128) (low-word (bit .bit .result)))
 
 pub halves-spec : {M : Type 1} → statement M
 halves-spec = tie.close (tie.spec shl-requires bit-requires sum-requires returns)

@@ -29,9 +29,17 @@ sum-requires c κs = search needs
 
 returns : tie.Need-returns
 returns c =
-    let a = c .before .before .before .before .before .before .args in
-    let p = c .before .before .before .before .before .before .pre in
-    like-merged (valueOf (a .big)) (valueOf (a .small)) (a .d) (a .e) (p .0) (p .1) (p .3) (p .4) (p .5) (a .sb) (a .ss) (c .before .before .before .before .shl .result) (c .before .before .before .shr .result) (c .sum .result) (c .before .before .before .before .before .least .result) (c .before .before .before .before .before .least .ensures) (c .before .before .lost .result) (c .before .if1 .taken) (c .before .before .before .before .shl .ensures, c .before .before .before .shr .ensures) (c .before .before .lost .ensures) (c .sum .ensures)
+    let i1 = c .before in
+    let lost = i1 .before in
+    let down = lost .before in
+    let up = down .before in
+    let room = up .before in
+    let s = room .before in
+    let a = s .args in
+    let p = s .pre in
+    like-merged (valueOf (a .big)) (valueOf (a .small)) (a .d) (a .e) (p .0) (p .1) (p .3) (p .4) (p .5) (a .sb) (a .ss) (up .shl .result)
+    (down .shr .result) (c .sum .result) (room .least .result) (room .least .ensures) (lost .lost .result) (i1 .if1 .taken)
+    (up .shl .ensures, down .shr .ensures) (lost .lost .ensures) (c .sum .ensures)
 
 less-requires : tie.Need-less-requires
 less-requires c κs = search needs
@@ -47,9 +55,23 @@ difference-requires-2 c κs = search needs
 
 returns-2 : tie.Need-returns-2
 returns-2 c =
-    let a = c .before .before .before .before .before .before .before .before .before .before .args in
-    let p = c .before .before .before .before .before .before .before .before .before .before .pre in
-    larger-merged (valueOf (a .big)) (valueOf (a .small)) (a .d) (a .e) (p .0) (p .1) (p .3) (p .4) (p .5) (a .sb) (a .ss) (c .before .before .before .before .before .before .before .before .shl .result) (c .before .before .before .before .before .before .before .shr .result) (c .difference2 .result) (c .before .before .before .before .before .before .before .before .before .least .result) (c .before .before .before .before .before .before .before .before .before .least .ensures) (c .before .before .before .before .before .before .lost .result) (record { high = 0; low = c .before .before .bit .result }) (c .before .difference .result) (c .before .before .bit .result) (c .before .before .before .before .before .if1 .left) (c .before .before .before .before .before .before .before .before .shl .ensures, c .before .before .before .before .before .before .before .shr .ensures) (c .before .before .before .before .before .before .lost .ensures) (sym (c .before .before .before .before .less .ensures) ∙ c .before .before .before .if2 .taken) (c .before .before .bit .ensures) (low-word (c .before .before .bit .result)) (c .before .difference .ensures) (c .difference2 .ensures)
+    let diff = c .before in
+    let bit = diff .before in
+    let i2 = bit .before in
+    let less = i2 .before in
+    let i1 = less .before in
+    let lost = i1 .before in
+    let down = lost .before in
+    let up = down .before in
+    let room = up .before in
+    let s = room .before in
+    let a = s .args in
+    let p = s .pre in
+    larger-merged (valueOf (a .big)) (valueOf (a .small)) (a .d) (a .e) (p .0) (p .1) (p .3) (p .4) (p .5) (a .sb) (a .ss) (up .shl .result)
+    (down .shr .result) (c .difference2 .result) (room .least .result) (room .least .ensures) (lost .lost .result)
+    (record { high = 0; low = bit .bit .result }) (diff .difference .result) (bit .bit .result) (i1 .if1 .left) (up .shl .ensures, down .shr .ensures)
+    (lost .lost .ensures) (sym (less .less .ensures) ∙ i2 .if2 .taken) (bit .bit .ensures) (low-word (bit .bit .result)) (diff .difference .ensures)
+    (c .difference2 .ensures)
 
 less-requires-2 : tie.Need-less-requires-2
 less-requires-2 c κs = search needs
@@ -62,9 +84,21 @@ difference-requires-3 c κs = search needs
 
 returns-3 : tie.Need-returns-3
 returns-3 c =
-    let a = c .before .before .before .before .before .before .before .before .before .before .args in
-    let p = c .before .before .before .before .before .before .before .before .before .before .pre in
-    smaller-merged (valueOf (a .big)) (valueOf (a .small)) (a .d) (a .e) (p .0) (p .1) (p .3) (p .4) (p .5) (a .sb) (a .ss) (c .before .before .before .before .before .before .before .before .shl .result) (c .before .before .before .before .before .before .before .shr .result) (c .difference3 .result) (c .before .before .before .before .before .before .before .before .before .least .result) (c .before .before .before .before .before .before .before .before .before .least .ensures) (c .before .both .result) (c .before .before .less2 .result) (c .before .before .before .before .before .if1 .left) (c .before .before .before .before .before .before .before .before .shl .ensures, c .before .before .before .before .before .before .before .shr .ensures) (sym (c .before .before .before .before .less .ensures) ∙ c .before .before .before .if2 .left) (c .before .before .less2 .ensures) (c .before .both .ensures) (c .difference3 .ensures)
+    let both = c .before in
+    let less2 = both .before in
+    let i2 = less2 .before in
+    let less = i2 .before in
+    let i1 = less .before in
+    let down = i1 .before .before in
+    let up = down .before in
+    let room = up .before in
+    let s = room .before in
+    let a = s .args in
+    let p = s .pre in
+    smaller-merged (valueOf (a .big)) (valueOf (a .small)) (a .d) (a .e) (p .0) (p .1) (p .3) (p .4) (p .5) (a .sb) (a .ss) (up .shl .result)
+    (down .shr .result) (c .difference3 .result) (room .least .result) (room .least .ensures) (both .both .result) (less2 .less2 .result)
+    (i1 .if1 .left) (up .shl .ensures, down .shr .ensures) (sym (less .less .ensures) ∙ i2 .if2 .left) (less2 .less2 .ensures) (both .both .ensures)
+    (c .difference3 .ensures)
 
 pub merge-spec : {M : Type 1} → statement M
 merge-spec =

@@ -1,4 +1,4 @@
--- `soft::pack::lift` meets its contract: by the sign of e. Assumes nothing.
+-- `pack::lift` meets its contract: by the sign of e. Assumes nothing.
 use Prim.Native.Nat.{ℕ, _+_, _^_, _<_}
 use mathlib.Core.Path.{_≡_, sym, ap, _∙_, subst}
 use mathlib.Core.Bool.{true, false}
@@ -17,7 +17,8 @@ use Rattle.soft.proofs.pack.lift.Tie as tie
 word : (e : ℤ) → SFits w64 e → toZ w64 (ofZ w64 e) ≡ e
 word e s = toZ-ofZ s
 
-plain : (e : ℤ) → SFits w64 e → leZ (pos 0) (toZ w64 (ofZ w64 e)) ≡ true → T (nonNeg (toZ w64 (ofZ w64 e))) × Fits w64 (natAbs (toZ w64 (ofZ w64 e))) × Counts e (natAbs (toZ w64 (ofZ w64 e)) + 2254)
+plain : (e : ℤ) → SFits w64 e → leZ (pos 0) (toZ w64 (ofZ w64 e)) ≡ true → T (nonNeg (toZ w64 (ofZ w64 e))) × Fits w64 (natAbs (toZ w64 (ofZ w64 e)))
+    × Counts e (natAbs (toZ w64 (ofZ w64 e)) + 2254)
 plain e s h = subst (λ (z : ℤ). T (nonNeg z) × Fits w64 (natAbs z) × Counts e (natAbs z + 2254)) (sym (word e s)) (from-zero e s (ap (leZ (pos 0)) (sym (word e s)) ∙ h))
 
 -- the sum and its word

@@ -1,7 +1,7 @@
--- `soft::pack::pack_wide_f32` meets its contract: far below the format it is a zero, and elsewhere what `place` rounds of the first digits. Assumes nothing.
-use Prim.Native.Nat.{_+_, _*_, _^_, _≤_}
+-- `pack::pack_wide_f32` meets its contract: far below the format it is a zero, and elsewhere what `place` rounds of the first digits. Assumes nothing.
+use Prim.Native.Nat.{_+_, _*_, _^_}
 use mathlib.Core.Path.{sym, ap, _∙_, subst}
-use mathlib.Core.Bool.{true, false}
+use mathlib.Core.Bool.{true}
 use native.Mathlib.Omega.{arith}
 use lib.IntN.{ℤ, negsuc}
 use lib.Signed.{ltZ}
@@ -11,7 +11,7 @@ use borrow.Author.Needs.{needs}
 use Rattle.soft.specs.Value.{valueOf}
 use Rattle.soft.proofs.wide.Laws.{below}
 use Rattle.soft.specs.declared.pack.Scaled.{Scaled}
-use Rattle.soft.proofs.squeeze.Digits.{digits-fit, squeezed-near}
+use Rattle.soft.proofs.squeeze.Digits.{digits-fit, places-near}
 use Rattle.soft.proofs.pack.Exponent.{Counts, in-reach, word, wide-fits, wide-near}
 use Rattle.soft.proofs.pack.Packed.{wide-packed, wide-far-below}
 use Rattle.soft.proofs.pack.pack_wide_f32.Statement.{statement}
@@ -22,8 +22,11 @@ place-f32-requires c κs = search needs
 
 returns : tie.Need-returns
 returns c =
-    let a = c .before .before .args in
-    c .place-f32 .ensures ∙ sym (wide-far-below binary32 (a .negative) (valueOf (a .w)) (a .e) (below (c .before .before .args .w) (omega arith) (omega arith)) (word (a .e) (c .before .before .fits .e) (λ (z : ℤ). ltZ z (negsuc 2253)) true (c .before .if1 .taken)))
+    let i1 = c .before in
+    let s = i1 .before in
+    let a = s .args in
+    c .place-f32 .ensures ∙ sym (wide-far-below binary32 (a .negative) (valueOf (a .w)) (a .e) (below (s .args .w) (omega arith) (omega arith))
+    (word (a .e) (s .fits .e) (λ (z : ℤ). ltZ z (negsuc 2253)) true (i1 .if1 .taken)))
 
 squeeze-requires : tie.Need-squeeze-requires
 squeeze-requires c κs = search needs
@@ -32,13 +35,20 @@ lift-requires : tie.Need-lift-requires
 lift-requires c κs = in-reach (c .before .before .args .e) (c .before .before .fits .e) (c .before .if1 .left)
 
 add-place-f32 : tie.Need-add-place-f32
-add-place-f32 c = record { fits = wide-fits (c .before .lift .result) (c .before .before .squeeze .result .places) (c .before .lift .ensures .1) (subst (λ (v : Scaled). v .places ≤ 66) (sym (c .before .before .squeeze .ensures)) (squeezed-near (valueOf (c .before .before .before .before .args .w)) false (below (c .before .before .before .before .args .w) (omega arith) (omega arith)))) }
+add-place-f32 c =
+    let s = c .before .before in
+    let w = s .before .before .args .w in
+    let n = places-near (valueOf w) (s .squeeze .result) (s .squeeze .ensures) (below w (omega arith) (omega arith)) in
+    record { fits = wide-fits (c .before .lift .result) (s .squeeze .result .places) (c .before .lift .ensures .1) n }
 
 place-f32-requires-2 : tie.Need-place-f32-requires-2
-place-f32-requires-2 c κs = (
-  digits-fit (valueOf (c .before .before .before .before .args .w)) false (c .before .before .squeeze .result) (c .before .before .squeeze .ensures),
-  wide-near (c .before .lift .result) (c .before .before .squeeze .result .places) (c .before .lift .ensures .1) (subst (λ (v : Scaled). v .places ≤ 66) (sym (c .before .before .squeeze .ensures)) (squeezed-near (valueOf (c .before .before .before .before .args .w)) false (below (c .before .before .before .before .args .w) (omega arith) (omega arith)))),
-)
+place-f32-requires-2 c κs =
+    let s = c .before .before in
+    let w = s .before .before .args .w in
+    let n = places-near (valueOf w) (s .squeeze .result) (s .squeeze .ensures) (below w (omega arith) (omega arith)) in (
+      digits-fit (valueOf w) (s .squeeze .result) (s .squeeze .ensures),
+      wide-near (c .before .lift .result) (s .squeeze .result .places) (c .before .lift .ensures .1) n,
+    )
 
 returns-2 : tie.Need-returns-2
 returns-2 c =

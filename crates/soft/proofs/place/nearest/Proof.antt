@@ -1,4 +1,4 @@
--- `soft::place::nearest` meets its contract: half of the last digit is added before the shift, less one where the digit kept is even. Assumes nothing.
+-- `place::nearest` meets its contract: half of the last digit is added before the shift, less one where the digit kept is even. Assumes nothing.
 use Prim.Native.Nat.{ℕ, _-_, _*_, _/_, _%_, _^_, _≤_, _<_}
 use mathlib.Core.Path.{sym, subst}
 use native.Mathlib.Omega.{arith}

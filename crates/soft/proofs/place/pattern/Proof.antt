@@ -1,4 +1,4 @@
--- `soft::place::pattern` meets its contract: the number is moved up to 63 digits, cut where the format's digits end, and put under its field. Assumes nothing.
+-- `place::pattern` meets its contract: the number is moved up to 63 digits, cut where the format's digits end, and put under its field. Assumes nothing.
 use Prim.Native.Nat.{ℕ, _+_, _-_, _*_, _%_, _^_, _≤_, _<_, min}
 use mathlib.Core.Path.{_≡_, sym, ap, _∙_, subst}
 use native.Mathlib.Omega.{arith}
@@ -7,7 +7,7 @@ use lib.Ieee.{size}
 use lib.Ieee.Nearest.{closest}
 use borrow.Author.Needs.{needs}
 use Rattle.soft.proofs.Rounding.Place.{digits63, normalised-lt}
-use Rattle.soft.specs.Cuts.{normalised, patternOf}
+use Rattle.soft.specs.inner.Pack.{normalised, patternOf}
 use Rattle.soft.proofs.place.Shift.{saturates, sum-fits, closest-le, placed-pos, placed-zero}
 use Rattle.soft.proofs.place.pattern.Statement.{statement}
 use Rattle.soft.proofs.place.pattern.Tie as tie
@@ -46,21 +46,26 @@ returns-2 c =
     ∙ sym (placed-pos (s .args .g) (s .args .t) (s .args .hid) (s .args .ones) (s .args .v) (s .args .x) (c .before .before .before .if1 .left))
 
 sub-nearest : tie.Need-sub-nearest
-sub-nearest c = few (c .before .before .before .before .args .v) (c .before .before .digits64 .result) (c .before .before .before .before .pre .0) (c .before .before .digits64 .ensures)
+sub-nearest c = few (c .before .before .before .before .args .v) (c .before .before .digits64 .result) (c .before .before .before .before .pre .0)
+    (c .before .before .digits64 .ensures)
 
 shl-nearest : tie.Need-shl-nearest
 shl-nearest c = search needs
 
 add-nearest : tie.Need-add-nearest
-add-nearest c = let z = few (c .before .before .before .before .args .v) (c .before .before .digits64 .result) (c .before .before .before .before .pre .0) (c .before .before .digits64 .ensures) in omega arith
+add-nearest c =
+    let z' = c .before .before in
+    let s = z' .before .before in
+    let z = few (s .args .v) (z' .digits64 .result) (s .pre .0) (z' .digits64 .ensures) in omega arith
 
 sub-nearest-2 : tie.Need-sub-nearest-2
 sub-nearest-2 c = search needs
 
 nearest-requires : tie.Need-nearest-requires
 nearest-requires c κs =
+    let z = c .before .before in
     let s = c .before .before .before .before in
-    (subst (λ (y : ℕ). y < 2 ^ 63) (sym (moved (s .args .v) (c .before .before .digits64 .result) (s .pre .0) (c .before .before .digits64 .ensures))) (normalised-lt (s .args .v) (s .pre .0)), omega arith)
+    (subst (λ (y : ℕ). y < 2 ^ 63) (sym (moved (s .args .v) (z .digits64 .result) (s .pre .0) (z .digits64 .ensures))) (normalised-lt (s .args .v) (s .pre .0)), omega arith)
 
 mul-least : tie.Need-mul-least
 mul-least c = search needs
@@ -84,16 +89,20 @@ least-requires c κs = search needs
 
 returns-3 : tie.Need-returns-3
 returns-3 c =
-    let s = c .before .before .before .before .before .before in
-    let z = c .before .before .before .before .digits64 .ensures in
-    let k = c .before .before .before .excess .ensures in
-    let m = moved (s .args .v) (c .before .before .before .before .digits64 .result) (s .pre .0) z in
-    let u = 2 ^ (s .args .g + c .before .before .before .excess .result - (s .args .x + c .before .before .before .before .digits64 .result)) in
+    let q = c .before in
+    let k' = q .before .before in
+    let z' = k' .before in
+    let i1 = z' .before in
+    let s = i1 .before in
+    let z = z' .digits64 .ensures in
+    let k = k' .excess .ensures in
+    let m = moved (s .args .v) (z' .digits64 .result) (s .pre .0) z in
+    let u = 2 ^ (s .args .g + k' .excess .result - (s .args .x + z' .digits64 .result)) in
     c .least .ensures
-    ∙ ap (λ (y : ℕ). min (c .before .before .before .excess .result * s .args .hid + y) (s .args .ones * s .args .hid)) (c .before .nearest .ensures ∙ ap (λ (y : ℕ). closest y u) m)
-    ∙ ap (λ (y : ℕ). min (y * s .args .hid + closest (normalised (s .args .v)) (2 ^ (s .args .g + y - (s .args .x + c .before .before .before .before .digits64 .result)))) (s .args .ones * s .args .hid)) k
+    ∙ ap (λ (y : ℕ). min (k' .excess .result * s .args .hid + y) (s .args .ones * s .args .hid)) (q .nearest .ensures ∙ ap (λ (y : ℕ). closest y u) m)
+    ∙ ap (λ (y : ℕ). min (y * s .args .hid + closest (normalised (s .args .v)) (2 ^ (s .args .g + y - (s .args .x + z' .digits64 .result)))) (s .args .ones * s .args .hid)) k
     ∙ ap (λ (y : ℕ). patternOf (s .args .g) (s .args .t) (s .args .hid) (s .args .ones) (normalised (s .args .v)) (s .args .x + y)) z
-    ∙ sym (placed-pos (s .args .g) (s .args .t) (s .args .hid) (s .args .ones) (s .args .v) (s .args .x) (c .before .before .before .before .before .if1 .left))
+    ∙ sym (placed-pos (s .args .g) (s .args .t) (s .args .hid) (s .args .ones) (s .args .v) (s .args .x) (i1 .if1 .left))
 
 pub pattern-spec : {M : Type 1} → statement M
 pattern-spec =

@@ -1,9 +1,9 @@
--- `soft::place::place_f32` meets its contract: the pattern is that of the nearest float, and no NaN's. Assumes nothing.
+-- `place::place_f32` meets its contract: the pattern is that of the nearest float, and no NaN's. Assumes nothing.
 use Prim.Native.Nat.{ℕ, _+_, _*_, _^_, _≤_}
 use mathlib.Core.Path.{_≡_, refl, sym, subst}
 use native.Mathlib.Omega.{arith}
 use lib.Ieee.{binary32}
-use Rattle.soft.specs.Cuts.{placedBits}
+use Rattle.soft.specs.inner.Pack.{placedBits}
 use mir.Syntax.{w32, w64}
 use mir.Val.{Fits}
 use borrow.Author.Needs.{needs}
@@ -31,22 +31,35 @@ add-result : tie.Need-add-result
 add-result c = signed-fits (c .before .pattern .result) (small (c .before .pattern .result) (c .before .before .args .v) (c .before .before .args .x) (c .before .pattern .ensures))
 
 cast-result : tie.Need-cast-result
-cast-result c = signed-fits32 (c .before .pattern .result) (small (c .before .pattern .result) (c .before .before .args .v) (c .before .before .args .x) (c .before .pattern .ensures))
+cast-result c = signed-fits32 (c .before .pattern .result)
+    (small (c .before .pattern .result) (c .before .before .args .v) (c .before .before .args .x) (c .before .pattern .ensures))
 
 float-from-bits-result : tie.Need-float-from-bits-result
-float-from-bits-result c = minus-not-nan binary32 2169 2130 2255 refl refl (c .before .before .args .v) (c .before .before .args .x) (c .before .pattern .result) (c .before .before .pre .0) (c .before .pattern .ensures)
+float-from-bits-result c =
+    let b = c .before in
+    let s = b .before in
+    minus-not-nan binary32 2169 2130 2255 refl refl (s .args .v) (s .args .x) (b .pattern .result) (s .pre .0) (b .pattern .ensures)
 
 returns : tie.Need-returns
-returns c = minus binary32 2169 2130 2255 refl refl (c .before .before .args .v) (c .before .before .args .x) (c .before .pattern .result) (c .before .before .pre .0) (c .before .pattern .ensures) (c .before .before .args .negative) (c .if1 .taken)
+returns c =
+    let b = c .before in
+    let s = b .before in
+    minus binary32 2169 2130 2255 refl refl (s .args .v) (s .args .x) (b .pattern .result) (s .pre .0) (b .pattern .ensures) (s .args .negative) (c .if1 .taken)
 
 cast-result-2 : tie.Need-cast-result-2
 cast-result-2 c = fits32 (c .before .pattern .result) (small (c .before .pattern .result) (c .before .before .args .v) (c .before .before .args .x) (c .before .pattern .ensures))
 
 float-from-bits-result-2 : tie.Need-float-from-bits-result-2
-float-from-bits-result-2 c = plus-not-nan binary32 2169 2130 2255 refl refl (c .before .before .args .v) (c .before .before .args .x) (c .before .pattern .result) (c .before .before .pre .0) (c .before .pattern .ensures)
+float-from-bits-result-2 c =
+    let b = c .before in
+    let s = b .before in
+    plus-not-nan binary32 2169 2130 2255 refl refl (s .args .v) (s .args .x) (b .pattern .result) (s .pre .0) (b .pattern .ensures)
 
 returns-2 : tie.Need-returns-2
-returns-2 c = plus binary32 2169 2130 2255 refl refl (c .before .before .args .v) (c .before .before .args .x) (c .before .pattern .result) (c .before .before .pre .0) (c .before .pattern .ensures) (c .before .before .args .negative) (c .if1 .left)
+returns-2 c =
+    let b = c .before in
+    let s = b .before in
+    plus binary32 2169 2130 2255 refl refl (s .args .v) (s .args .x) (b .pattern .result) (s .pre .0) (b .pattern .ensures) (s .args .negative) (c .if1 .left)
 
 pub place-f32-spec : {M : Type 1} → statement M
 place-f32-spec =

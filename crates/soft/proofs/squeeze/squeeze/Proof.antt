@@ -1,7 +1,7 @@
--- `soft::squeeze::squeeze` meets its contract: the lower word holds the first 62 digits. Assumes nothing.
+-- `squeeze::squeeze` meets its contract: the lower word holds the first 62 digits. Assumes nothing.
 use Prim.Native.Nat.{ℕ, _+_, _-_, _*_, _/_, _%_, _^_, _≤_, _<_}
 use mathlib.Core.Path.{_≡_, sym, ap, ap₂, _∙_, subst}
-use mathlib.Core.Bool.{Bool, true, false, not, _||_, cond}
+use mathlib.Core.Bool.{Bool, true, false, not, cond}
 use native.Mathlib.Omega.{arith}
 use native.Mathlib.Nat.{mod-eq-of-lt, lt-of-lt-of-le}
 use lib.Dec.{eqb, lit≤}
@@ -12,7 +12,7 @@ use Rattle.soft.specs.declared.wide.Wide.{Wide}
 use Rattle.soft.specs.Value.{valueOf}
 use Rattle.soft.proofs.wide.Laws.{low-is}
 use Rattle.soft.specs.declared.pack.Scaled.{Scaled}
-use Rattle.soft.specs.PackSteps.{squeezeDef}
+use Rattle.soft.specs.inner.Pack.{squeezeDef}
 use Rattle.soft.proofs.squeeze.squeeze.Statement.{statement}
 use Rattle.soft.proofs.squeeze.squeeze.Tie as tie
 
@@ -37,13 +37,13 @@ twice-fits q h = omega arith
 sum-fits : (q b : ℕ) → q < 2 ^ 62 → b ≤ 1 → q * 2 + b < 2 ^ 64
 sum-fits q b h k = omega arith
 
-made : (v : ℕ) (s : Bool) (q : Wide) (z n : ℕ) (lost e : Bool) (b : ℕ) → z ≡ size v → n ≡ z - 62 → q .low < 2 ^ 64 → valueOf q ≡ v / 2 ^ n → lost ≡ not (eqb (v % 2 ^ n) 0) → e ≡ (s || lost) → b ≡ cond e 1 0
-    → _≡_ {A = Scaled} (record { digits = q .low * 2 + b; places = n }) (squeezeDef v s)
+made : (v : ℕ) (q : Wide) (z n : ℕ) (lost : Bool) (b : ℕ) → z ≡ size v → n ≡ z - 62 → q .low < 2 ^ 64 → valueOf q ≡ v / 2 ^ n
+    → lost ≡ not (eqb (v % 2 ^ n) 0) → b ≡ cond lost 1 0 → _≡_ {A = Scaled} (record { digits = q .low * 2 + b; places = n }) (squeezeDef v)
 unfolding squeezeDef
-made v s q z n lost e b pz pn l hq hl he hb =
+made v q z n lost b pz pn l hq hl hb =
     let m = places v z n pz pn in
-    let d : q .low * 2 + b ≡ v / 2 ^ (size v - 62) * 2 + cond (s || not (eqb (v % 2 ^ (size v - 62)) 0)) 1 0 =
-    ap₂ (λ (x y : ℕ). x * 2 + y) (word q v n l m hq) (hb ∙ ap (λ (t : Bool). cond t 1 0) (he ∙ ap (λ (t : Bool). s || t) (hl ∙ ap (λ (x : ℕ). not (eqb (v % 2 ^ x) 0)) m))) in
+    let d : q .low * 2 + b ≡ v / 2 ^ (size v - 62) * 2 + cond (not (eqb (v % 2 ^ (size v - 62)) 0)) 1 0 =
+    ap₂ (λ (x y : ℕ). x * 2 + y) (word q v n l m hq) (hb ∙ ap (λ (t : Bool). cond t 1 0) (hl ∙ ap (λ (x : ℕ). not (eqb (v % 2 ^ x) 0)) m)) in
     λ i. record { digits = d i; places = m i }
 
 digits-requires : tie.Need-digits-requires
@@ -58,33 +58,37 @@ shr-requires c κs = search needs
 lost-requires : tie.Need-lost-requires
 lost-requires c κs = search needs
 
-either-requires : tie.Need-either-requires
-either-requires c κs = search needs
-
-mul-t6 : tie.Need-mul-t6
-mul-t6 c = record { fits = twice-fits (c .before .before .before .shr .result .low) (short (c .before .before .before .shr .result) (valueOf (c .before .before .before .before .before .before .args .w)) (c .before .before .before .before .excess .result) (c .before .before .before .shr .ok .1 .1 .1 .0 .1) (places (valueOf (c .before .before .before .before .before .before .args .w)) (c .before .before .before .before .before .digits .result) (c .before .before .before .before .excess .result) (c .before .before .before .before .before .digits .ensures) (c .before .before .before .before .excess .ensures)) (c .before .before .before .shr .ensures)) }
+mul-t5 : tie.Need-mul-t5
+mul-t5 c =
+    let s = c .before .before in
+    let e = s .before in
+    let d = e .before in
+    let v = valueOf (d .before .args .w) in
+    let m = places v (d .digits .result) (e .excess .result) (d .digits .ensures) (e .excess .ensures) in
+    record { fits = twice-fits (s .shr .result .low) (short (s .shr .result) v (e .excess .result) (s .shr .ok .1 .1 .1 .0 .1) m (s .shr .ensures)) }
 
 bit-requires : tie.Need-bit-requires
 bit-requires c κs = search needs
 
-add-t9 : tie.Need-add-t9
-add-t9 c = record { fits = sum-fits (c .before .before .before .before .shr .result .low) (c .bit .result) (short (c .before .before .before .before .shr .result) (valueOf (c .before .before .before .before .before .before .before .args .w)) (c .before .before .before .before .before .excess .result) (c .before .before .before .before .shr .ok .1 .1 .1 .0 .1) (places (valueOf (c .before .before .before .before .before .before .before .args .w)) (c .before .before .before .before .before .before .digits .result) (c .before .before .before .before .before .excess .result) (c .before .before .before .before .before .before .digits .ensures) (c .before .before .before .before .before .excess .ensures)) (c .before .before .before .before .shr .ensures)) (bit-le (c .before .before .either .result) (c .bit .result) (c .bit .ensures)) }
+add-t7 : tie.Need-add-t7
+add-t7 c =
+    let k = c .before .before in
+    let s = k .before in
+    let e = s .before in
+    let d = e .before in
+    let v = valueOf (d .before .args .w) in
+    let m = places v (d .digits .result) (e .excess .result) (d .digits .ensures) (e .excess .ensures) in
+    let q = short (s .shr .result) v (e .excess .result) (s .shr .ok .1 .1 .1 .0 .1) m (s .shr .ensures) in
+    record { fits = sum-fits (s .shr .result .low) (c .bit .result) q (bit-le (k .lost .result) (c .bit .result) (c .bit .ensures)) }
 
 returns : tie.Need-returns
 returns c =
-    made (valueOf (c .before .before .before .before .before .before .before .args .w)) (c .before .before .before .before .before .before .before .args .sticky) (c .before .before .before .before .shr .result) (c .before .before .before .before .before .before .digits .result) (c .before .before .before .before .before .excess .result) (c .before .before .before .lost .result) (c .before .before .either .result) (c .bit .result)
-    (c .before .before .before .before .before .before .digits .ensures) (c .before .before .before .before .before .excess .ensures) (c .before .before .before .before .shr .ok .1 .1 .1 .0 .1) (c .before .before .before .before .shr .ensures) (c .before .before .before .lost .ensures) (c .before .before .either .ensures) (c .bit .ensures)
+    let k = c .before .before in
+    let s = k .before in
+    let e = s .before in
+    let d = e .before in
+    made (valueOf (d .before .args .w)) (s .shr .result) (d .digits .result) (e .excess .result) (k .lost .result) (c .bit .result)
+    (d .digits .ensures) (e .excess .ensures) (s .shr .ok .1 .1 .1 .0 .1) (s .shr .ensures) (k .lost .ensures) (c .bit .ensures)
 
 pub squeeze-spec : {M : Type 1} → statement M
-squeeze-spec =
-    tie.close
-    (tie.spec
-    digits-requires
-    excess-requires
-    shr-requires
-    lost-requires
-    either-requires
-    mul-t6
-    bit-requires
-    add-t9
-    returns)
+squeeze-spec = tie.close (tie.spec digits-requires excess-requires shr-requires lost-requires mul-t5 bit-requires add-t7 returns)

@@ -1,4 +1,4 @@
--- `parts::units::measure` meets its contract. Assumes nothing.
+-- `units::measure` meets its contract. Assumes nothing.
 use mathlib.Core.Path.{ap, _∙_}
 use Prim.Native.Nat.{ℕ, _^_}
 use borrow.Author.Needs.{needs}

@@ -1,8 +1,9 @@
--- `parts::units::pattern` meets its contract: only a NaN differs from itself. Assumes nothing.
-use mathlib.Core.Path.{_≡_, refl, sym, ap, _∙_}
-use lib.Ieee.{nan, binary64, toBits}
+-- `units::pattern` meets its contract: only a NaN differs from itself. Assumes nothing.
+use mathlib.Core.Path.{_≡_, refl, sym, ap, _∙_, subst}
+use mathlib.Core.Bool.{false, not}
+use lib.Dec.{T}
+use lib.Ieee.{Float, nan, inf, fin, binary64, ne, isNan, toBits}
 use lib.Ieee.Compare.{differs-from-itself}
-use Rattle.soft.proofs.decode.Kind.{no-nan}
 use Rattle.soft.proofs.units.Value.{holds}
 use Rattle.soft.proofs.units.pattern.Statement.{statement}
 use Rattle.soft.proofs.units.pattern.Tie as tie
@@ -10,6 +11,12 @@ use Rattle.soft.proofs.units.pattern.Tie as tie
 nan-bits : 0x7ff8_0000_0000_0000 ≡ toBits binary64 nan
 unfolding toBits
 nan-bits = refl
+
+no-nan : (x : Float) → ne x x ≡ false → T (not (isNan x))
+unfolding ne isNan
+no-nan nan e = subst T e tt
+no-nan (inf s) e = tt
+no-nan (fin s m d) e = tt
 
 returns : tie.Need-returns
 returns c = nan-bits ∙ ap (toBits binary64) (sym (differs-from-itself (c .before .args .x) (holds (c .if1 .taken))))

@@ -19,7 +19,8 @@ returns c =
     let a = c .before .before .before .before .args in
     let low = c .before .before .before .wrapping-sub-u64 in
     let high = c .before .before .wrapping-sub-u642 in
-    difference-borrowed (a .a .high) (a .a .low) (a .b .high) (a .b .low) (c .wrapping-sub-u643 .result) (low .result) (omega arith) (omega arith) (omega arith) (omega arith) (omega arith)
+    difference-borrowed (a .a .high) (a .a .low) (a .b .high) (a .b .low) (c .wrapping-sub-u643 .result) (low .result) (omega arith) (omega arith)
+    (omega arith) (omega arith) (omega arith)
     (low .ensures) (high .result) (high .ensures) (c .wrapping-sub-u643 .ensures) (c .before .if1 .taken)
 
 returns-2 : tie.Need-returns-2

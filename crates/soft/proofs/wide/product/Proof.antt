@@ -53,7 +53,8 @@ middle-fits : {x₁ x₀ y₀ : ℕ} → x₁ < 2 ^ 32 → x₀ < 2 ^ 32 → y�
 middle-fits {x₁} {x₀} {y₀} h₁ h₀ l =
     fits-bits (32 + 32) tt
     (lt-of-le-of-lt
-    (le-trans (add-le-add (le-refl (x₁ * y₀)) (div-le-of-le-mul (2 ^ 32) {m = x₀ * y₀} {n = y₀} (mul-le-mul-right y₀ (le-of-lt h₀)))) (le-trans (le-of-eq (sym (suc-mul x₁ y₀))) (mul-le-mul-right y₀ h₁)))
+    (le-trans (add-le-add (le-refl (x₁ * y₀)) (div-le-of-le-mul (2 ^ 32) {m = x₀ * y₀} {n = y₀} (mul-le-mul-right y₀ (le-of-lt h₀))))
+    (le-trans (le-of-eq (sym (suc-mul x₁ y₀))) (mul-le-mul-right y₀ h₁)))
     (lt-of-lt-of-le (mul-lt-mul-of-pos-left l (pow-pos 32)) (le-of-eq (sym (pow-add 2 32 32)))))
 
 -- the next column: the low 32 bits of the middle one, and a product
@@ -89,7 +90,8 @@ add-top : tie.Need-add-top
 add-top c =
     let u = c .args .u in
     let v = c .args .v in
-    fits-le (le-add-right (u / 2 ^ 32 * (v / 2 ^ 32) + middle-of low u v / 2 ^ 32) ((low (middle-of low u v) + low u * (v / 2 ^ 32)) / 2 ^ 32)) (high-fits u v (c .fits .u .fits) (c .fits .v .fits))
+    fits-le (le-add-right (u / 2 ^ 32 * (v / 2 ^ 32) + middle-of low u v / 2 ^ 32) ((low (middle-of low u v) + low u * (v / 2 ^ 32)) / 2 ^ 32))
+    (high-fits u v (c .fits .u .fits) (c .fits .v .fits))
 
 add-high : tie.Need-add-high
 add-high c = high-fits (c .args .u) (c .args .v) (c .fits .u .fits) (c .fits .v .fits)
@@ -102,9 +104,12 @@ wrapping-add-u64-requires-2 c κs = search needs
 
 returns : tie.Need-returns
 returns c =
-    let u = c .before .before .args .u in
-    let v = c .before .before .args .v in
-    let l : c .wrapping-add-u642 .result ≡ u * v % 2 ^ 64 = c .wrapping-add-u642 .ensures ∙ ap (λ (x : ℕ). (x * 2 ^ 32 % 2 ^ 64 + low u * low v) % 2 ^ 64) (c .before .wrapping-add-u64 .ensures) ∙ low-law u v in
+    let add = c .before in
+    let s = add .before in
+    let u = s .args .u in
+    let v = s .args .v in
+    let l : c .wrapping-add-u642 .result ≡ u * v % 2 ^ 64 = c .wrapping-add-u642 .ensures
+    ∙ ap (λ (x : ℕ). (x * 2 ^ 32 % 2 ^ 64 + low u * low v) % 2 ^ 64) (add .wrapping-add-u64 .ensures) ∙ low-law u v in
     (λ i. high-law u v i * 2 ^ 64 + l i) ∙ split (u * v) 64
 
 pub product-spec : {M : Type 1} → statement M

@@ -6,16 +6,16 @@ use Rattle.vectors.proofs.line.row_of.Statement.{statement}
 use Rattle.vectors.proofs.line.row_of.Tie as tie
 
 abbrev Inv-loop : tie.InvT-loop
-Inv-loop letters letter is-good row₀ row = row ≤ length letters
+Inv-loop letters letter row₀ row = row ≤ length letters
 
 abbrev μ-loop : tie.MeasureT-loop
-μ-loop letters letter is-good row₀ row = length letters - row
+μ-loop letters letter row₀ row = length letters - row
 
 loop-holds : tie.Need-loop-holds Inv-loop μ-loop
 loop-holds c = search needs
 
-shared-slice-read-if2 : tie.Need-shared-slice-read-if2 Inv-loop μ-loop
-shared-slice-read-if2 c = search needs
+shared-slice-read-if1 : tie.Need-shared-slice-read-if1 Inv-loop μ-loop
+shared-slice-read-if1 c = search needs
 
 returns : tie.Need-returns Inv-loop μ-loop
 returns c = search needs
@@ -39,7 +39,7 @@ row-of-spec =
     Inv-loop
     μ-loop
     loop-holds
-    shared-slice-read-if2
+    shared-slice-read-if1
     returns
     add-row
     loop-less

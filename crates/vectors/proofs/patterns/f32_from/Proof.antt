@@ -1,6 +1,6 @@
 -- `f32_from` is safe: what is not above the infinity's pattern, less its sign, is no NaN's. Assumes nothing.
 use lib.Ieee.{binary32}
-use Rattle.vectors.proofs.Reading.{pattern-no-nan}
+use Rattle.vectors.proofs.NoNan.{pattern-no-nan}
 use borrow.Author.Needs.{needs}
 use Rattle.vectors.proofs.patterns.f32_from.Statement.{statement}
 use Rattle.vectors.proofs.patterns.f32_from.Tie as tie

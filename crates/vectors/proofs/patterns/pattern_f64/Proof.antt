@@ -1,5 +1,5 @@
 -- `pattern_f64` is safe: what does not differ from itself is no NaN. Assumes nothing.
-use Rattle.vectors.proofs.Reading.{same-no-nan}
+use Rattle.vectors.proofs.NoNan.{same-no-nan}
 use borrow.Author.Needs.{needs}
 use Rattle.vectors.proofs.patterns.pattern_f64.Statement.{statement}
 use Rattle.vectors.proofs.patterns.pattern_f64.Tie as tie

@@ -5,7 +5,7 @@ use borrow.Author.Needs.{needs}
 use Rattle.checks.specs.Batch.{cardsOf}
 use native.Mathlib.Nat.{le-trans}
 use lib.ListN.{length}
-use Rattle.checks.proofs.sizes.Longer.{under-longest}
+use Rattle.checks.proofs.Longer.{under-longest}
 use Rattle.checks.specs.Columns.{total, through}
 use Rattle.checks.proofs.tables.Columns.{no-total, next-total, all-total, none-through, next-through, all-through}
 use Rattle.analytic_v6.specs.Cards.{cardLoss, cardSlots, cardRecords, cardGrads}
@@ -26,9 +26,12 @@ loop-holds c = (search needs, refl, refl, refl, no-total _, none-through _ _, no
 
 column-loss-and-grad-requires : tie.Need-column-loss-and-grad-requires Inv-loop μ-loop
 column-loss-and-grad-requires c κs =
-    let l = c .before .before .before .before .loop in
-    let u = under-longest _ _ _ (l .c) (c .before .before .before .loop-test .taken) in
-    let q = c .before .before .before .before .before .before .before .before .before .before .before .before .before .pre in (rw (l .inv .2) (le-trans u (q .0)), rw (l .inv .3) (le-trans u (q .1)))
+    let at-loop-test = c .before .before .before in
+    let at-loop = at-loop-test .before in
+    let at-pre = at-loop .before .before .before .before .before .before .before .before .before in
+    let l = at-loop .loop in
+    let u = under-longest _ _ _ (l .c) (at-loop-test .loop-test .taken) in
+    let q = at-pre .pre in (rw (l .inv .2) (le-trans u (q .0)), rw (l .inv .3) (le-trans u (q .1)))
 
 add-c : tie.Need-add-c Inv-loop μ-loop
 add-c c = search needs
@@ -38,8 +41,10 @@ loop-less c = search needs
 
 loop-again : tie.Need-loop-again Inv-loop μ-loop
 loop-again c =
-    let l = c .before .before .before .before .before .before .before .before .before .before .before .loop in
-    let e = c .before .before .before .before .before .before .column-loss-and-grad .ensures in (
+    let at-column-loss-and-grad = c .before .before .before .before .before .before in
+    let at-loop = at-column-loss-and-grad .before .before .before .before .before in
+    let l = at-loop .loop in
+    let e = at-column-loss-and-grad .column-loss-and-grad .ensures in (
       search needs,
       search needs,
       search needs,
@@ -61,8 +66,9 @@ same-length-3 c = search needs
 
 returns : tie.Need-returns Inv-loop μ-loop
 returns c =
+    let at-args = c .before .before .before .before .before .before .before .before .before .before in
     let l = c .before .loop in
-    let e : l .c ≡ c .before .before .before .before .before .before .before .before .before .before .args .batch = omega (arith, l .inv .0, c .loop-test .left) in
+    let e : l .c ≡ at-args .args .batch = omega (arith, l .inv .0, c .loop-test .left) in
     (all-total _ _ _ e _ (l .inv .4), all-through _ _ _ _ e _ (l .inv .5), all-through _ _ _ _ e _ (l .inv .6), all-through _ _ _ _ e _ (l .inv .7))
 
 pub batch-total-and-grad-spec : {M : Type 1} → statement M

@@ -16,8 +16,8 @@ returns c =
 sub-m : tie.Need-sub-m
 sub-m c = search needs
 
-run-scored-stored-requires : tie.Need-run-scored-stored-requires
-run-scored-stored-requires c κs = search needs
+card-forward-recorded-requires : tie.Need-card-forward-recorded-requires
+card-forward-recorded-requires c κs = search needs
 
 cell-of-requires : tie.Need-cell-of-requires
 cell-of-requires c κs = search needs
@@ -40,8 +40,8 @@ write-f64-requires c κs = search needs
 last-end-requires : tie.Need-last-end-requires
 last-end-requires c κs = search needs
 
-walk-back-requires : tie.Need-walk-back-requires
-walk-back-requires c κs = search needs
+column-backward-requires : tie.Need-column-backward-requires
+column-backward-requires c κs = search needs
 
 same-length : tie.Need-same-length
 same-length c = search needs
@@ -54,14 +54,25 @@ same-length-3 c = search needs
 
 returns-2 : tie.Need-returns-2
 returns-2 c =
-    let e = c .before .before .before .before .before .before .before .before .before .before .before .before .before .before .before .before .before .before .before .before .before .before .before .before .before .before .before .cut-length .ensures in
-    let h = c .before .before .before .before .before .before .before .before .before .before .before .before .before .before .before .before .before .before .before .before .before .before .before .before .before .before .if1 .left in
-    let r = c .before .before .before .before .before .before .before .before .before .before .before .before .before .before .before .before .before .before .before .before .before .before .before .run-scored-stored .ensures in (
-      (rw (c .before .before .before .before .before .before .before .before .last-end .ensures .0) (loss-of _ _ _ _ e h (c .before .before .before .before .before .before .before .before .before .before .before .before .before .before .before .before .before .before .before .before .before .before .before .run-scored-stored .result) _ _ _ (c .before .before .before .before .before .before .before .before .before .before .before .before .before .before .before .before .before .before .before .before .before .before .before .run-scored-stored .ensures .0) (rw (c .before .before .before .before .before .before .before .before .before .before .before .before .before .before .before .before .read .ensures, c .before .before .before .before .before .before .before .before .before .before .before .before .before .before .before .before .before .cell-of .ensures)) (rw (c .before .before .before .before .before .before .before .before .before .before .before .before .before .before .before .read2 .ensures, c .before .before .before .before .before .before .before .before .before .before .before .before .before .before .before .before .before .cell-of .ensures)) (rw (c .before .before .before .before .before .before .before .before .before .before .before .before .before .before .read3 .ensures, c .before .before .before .before .before .before .before .before .before .before .before .before .before .before .before .before .before .cell-of .ensures)))),
-      (rw (c .before .before .walk-back .ensures, c .before .before .before .before .before .before .before .before .last-end .ensures .0, c .before .before .before .before .before .before .before .before .last-end .ensures .1, c .before .before .before .before .before .before .before .before .before .before .before .before .write-f64 .ensures, r .1, r .2)
-          (slots-of _ _ _ _ e h (c .before .before .before .before .before .before .before .before .before .before .before .before .before .before .before .before .before .before .before .before .before .before .before .run-scored-stored .result) _ _ _ (c .before .before .before .before .before .before .before .before .before .before .before .before .before .before .before .before .before .before .before .before .before .before .before .run-scored-stored .ensures .0) (rw (c .before .before .before .before .before .before .before .before .before .before .before .before .before .before .before .before .read .ensures, c .before .before .before .before .before .before .before .before .before .before .before .before .before .before .before .before .before .cell-of .ensures)) (rw (c .before .before .before .before .before .before .before .before .before .before .before .before .before .before .before .read2 .ensures, c .before .before .before .before .before .before .before .before .before .before .before .before .before .before .before .before .before .cell-of .ensures)) (rw (c .before .before .before .before .before .before .before .before .before .before .before .before .before .before .read3 .ensures, c .before .before .before .before .before .before .before .before .before .before .before .before .before .before .before .before .before .cell-of .ensures)) _ _ _ (c .before .before .before .before .before .before .before .before .before .before .before .before .before .before .before .before .before .before .before .before .before .before .before .before .before .before .before .before .before .before .before .before .before .before .before .before .pre .0) (c .before .before .before .before .before .before .before .before .before .before .before .before .before .before .before .before .before .before .before .before .before .before .before .before .before .before .before .before .before .before .before .before .before .before .before .before .pre .1))),
+    let at-column-backward = c .before .before in
+    let at-last-end = at-column-backward .before .before .before .before .before .before in
+    let at-write-f64 = at-last-end .before .before .before .before in
+    let at-read3 = at-write-f64 .before .before in
+    let at-read2 = at-read3 .before in
+    let at-read = at-read2 .before in
+    let at-cell-of = at-read .before in
+    let at-card-forward-recorded = at-cell-of .before .before .before .before .before .before in
+    let at-if1 = at-card-forward-recorded .before .before .before in
+    let at-cut-length = at-if1 .before in
+    let at-pre = at-cut-length .before .before .before .before .before .before .before .before .before in
+    let e = at-cut-length .cut-length .ensures in
+    let h = at-if1 .if1 .left in
+    let r = at-card-forward-recorded .card-forward-recorded .ensures in (
+      (rw (at-last-end .last-end .ensures .0) (loss-of _ _ _ _ e h (at-card-forward-recorded .card-forward-recorded .result) _ _ _ (at-card-forward-recorded .card-forward-recorded .ensures .0) (rw (at-read .read .ensures, at-cell-of .cell-of .ensures)) (rw (at-read2 .read2 .ensures, at-cell-of .cell-of .ensures)) (rw (at-read3 .read3 .ensures, at-cell-of .cell-of .ensures)))),
+      (rw (at-column-backward .column-backward .ensures, at-last-end .last-end .ensures .0, at-last-end .last-end .ensures .1, at-write-f64 .write-f64 .ensures, r .1, r .2)
+          (slots-of _ _ _ _ e h (at-card-forward-recorded .card-forward-recorded .result) _ _ _ (at-card-forward-recorded .card-forward-recorded .ensures .0) (rw (at-read .read .ensures, at-cell-of .cell-of .ensures)) (rw (at-read2 .read2 .ensures, at-cell-of .cell-of .ensures)) (rw (at-read3 .read3 .ensures, at-cell-of .cell-of .ensures)) _ _ _ (at-pre .pre .0) (at-pre .pre .1))),
       r .1 ∙ records-of _ _ _ _ e h _,
-      (rw (c .before .before .before .before .before .before .before .before .before .before .before .before .write-f64 .ensures, r .2) (grads-of _ _ _ _ e h _)),
+      (rw (at-write-f64 .write-f64 .ensures, r .2) (grads-of _ _ _ _ e h _)),
     )
 
 pub column-loss-and-grad-spec : {M : Type 1} → statement M
@@ -71,7 +82,7 @@ column-loss-and-grad-spec =
     cut-length-requires
     returns
     sub-m
-    run-scored-stored-requires
+    card-forward-recorded-requires
     cell-of-requires
     read-requires
     read-requires-2
@@ -79,7 +90,7 @@ column-loss-and-grad-spec =
     cast-write-f64
     write-f64-requires
     last-end-requires
-    walk-back-requires
+    column-backward-requires
     same-length
     same-length-2
     same-length-3

@@ -9,8 +9,8 @@ use Rattle.analytic_v6.proofs.prefixes.grad.column_loss_and_grad.Tie as
 cut-length-requires : tie.Need-cut-length-requires
 cut-length-requires c κs = search needs
 
-run-stored-requires : tie.Need-run-stored-requires
-run-stored-requires c κs = search needs
+prefix-forward-recorded-requires : tie.Need-prefix-forward-recorded-requires
+prefix-forward-recorded-requires c κs = search needs
 
 read-requires : tie.Need-read-requires
 read-requires c κs = search needs
@@ -24,11 +24,11 @@ read-requires-3 c κs = search needs
 target-end-requires : tie.Need-target-end-requires
 target-end-requires c κs = search needs
 
-slice-aggregate-walk-back : tie.Need-slice-aggregate-walk-back
-slice-aggregate-walk-back c = search needs
+slice-aggregate-column-backward : tie.Need-slice-aggregate-column-backward
+slice-aggregate-column-backward c = search needs
 
-walk-back-requires : tie.Need-walk-back-requires
-walk-back-requires c κs = search needs
+column-backward-requires : tie.Need-column-backward-requires
+column-backward-requires c κs = search needs
 
 same-length : tie.Need-same-length
 same-length c = search needs
@@ -37,25 +37,33 @@ same-length-2 : tie.Need-same-length-2
 same-length-2 c = search needs
 
 returns : tie.Need-returns
-returns c = (
-  (rw (c .before .before .before .before .before .before .before .before .target-end .ensures .0) (loss-of _ _ _ _ (c .before .before .before .before .before .before .before .before .before .before .before .before .before .before .before .before .before .cut-length .ensures) _ _ _ _ (c .before .before .before .before .before .before .before .before .before .before .before .before .before .before .before .run-stored .ensures .0) (c .before .before .before .before .before .before .before .before .before .before .before .before .read .ensures) (c .before .before .before .before .before .before .before .before .before .before .before .read2 .ensures) (c .before .before .before .before .before .before .before .before .before .before .read3 .ensures))),
-  (rw (c .before .before .walk-back .ensures, c .before .before .before .before .before .before .before .before .target-end .ensures .0, c .before .before .before .before .before .before .before .before .target-end .ensures .1, c .before .before .before .before .before .before .before .before .before .before .before .before .before .before .before .run-stored .ensures .1)
-      (slots-of _ _ _ _ (c .before .before .before .before .before .before .before .before .before .before .before .before .before .before .before .before .before .cut-length .ensures) _ _ _ _ (c .before .before .before .before .before .before .before .before .before .before .before .before .before .before .before .run-stored .ensures .0) (c .before .before .before .before .before .before .before .before .before .before .before .before .read .ensures) (c .before .before .before .before .before .before .before .before .before .before .before .read2 .ensures) (c .before .before .before .before .before .before .before .before .before .before .read3 .ensures) _ _ (zero64 ∷ []) (c .before .before .before .before .before .before .before .before .before .before .before .before .before .before .before .before .before .before .before .before .before .before .before .before .before .before .pre) unscored)),
-  c .before .before .before .before .before .before .before .before .before .before .before .before .before .before .before .run-stored .ensures .1 ∙ records-of _ _ _ _ (c .before .before .before .before .before .before .before .before .before .before .before .before .before .before .before .before .before .cut-length .ensures) _,
-)
+returns c =
+    let at-column-backward = c .before .before in
+    let at-target-end = at-column-backward .before .before .before .before .before .before in
+    let at-read3 = at-target-end .before .before in
+    let at-read2 = at-read3 .before in
+    let at-read = at-read2 .before in
+    let at-prefix-forward-recorded = at-read .before .before .before in
+    let at-cut-length = at-prefix-forward-recorded .before .before in
+    let at-pre = at-cut-length .before .before .before .before .before .before .before .before .before in (
+      (rw (at-target-end .target-end .ensures .0) (loss-of _ _ _ _ (at-cut-length .cut-length .ensures) _ _ _ _ (at-prefix-forward-recorded .prefix-forward-recorded .ensures .0) (at-read .read .ensures) (at-read2 .read2 .ensures) (at-read3 .read3 .ensures))),
+      (rw (at-column-backward .column-backward .ensures, at-target-end .target-end .ensures .0, at-target-end .target-end .ensures .1, at-prefix-forward-recorded .prefix-forward-recorded .ensures .1)
+          (slots-of _ _ _ _ (at-cut-length .cut-length .ensures) _ _ _ _ (at-prefix-forward-recorded .prefix-forward-recorded .ensures .0) (at-read .read .ensures) (at-read2 .read2 .ensures) (at-read3 .read3 .ensures) _ _ (zero64 ∷ []) (at-pre .pre) unscored)),
+      at-prefix-forward-recorded .prefix-forward-recorded .ensures .1 ∙ records-of _ _ _ _ (at-cut-length .cut-length .ensures) _,
+    )
 
 pub column-loss-and-grad-spec : {M : Type 1} → statement M
 column-loss-and-grad-spec =
     tie.close
     (tie.spec
     cut-length-requires
-    run-stored-requires
+    prefix-forward-recorded-requires
     read-requires
     read-requires-2
     read-requires-3
     target-end-requires
-    slice-aggregate-walk-back
-    walk-back-requires
+    slice-aggregate-column-backward
+    column-backward-requires
     same-length
     same-length-2
     returns)

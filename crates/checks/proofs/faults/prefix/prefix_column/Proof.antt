@@ -18,14 +18,22 @@ prefix-rows-requires c κs = search needs
 
 returns-2 : tie.Need-returns-2
 unfolding prefixColumn
-returns-2 c = rw (← c .before .before .before .before .cut-length .ensures, ne-eqb _ 0 (c .before .before .before .if1 .left), ← c .before .before .prefix-rows .ensures) (sym (else-found _ _ (c .if2 .taken)))
+returns-2 c =
+    let at-prefix-rows = c .before .before in
+    let at-if1 = at-prefix-rows .before in
+    let at-cut-length = at-if1 .before in
+    rw (← at-cut-length .cut-length .ensures, ne-eqb _ 0 (at-if1 .if1 .left), ← at-prefix-rows .prefix-rows .ensures) (sym (else-found _ _ (c .if2 .taken)))
 
 prefix-target-requires : tie.Need-prefix-target-requires
 prefix-target-requires c κs = search needs
 
 returns-3 : tie.Need-returns-3
 unfolding prefixColumn
-returns-3 c = rw (← c .before .before .before .before .before .cut-length .ensures, ne-eqb _ 0 (c .before .before .before .before .if1 .left), ← c .before .before .before .prefix-rows .ensures) (c .prefix-target .ensures ∙ sym (else-none _ _ (c .before .if2 .left)))
+returns-3 c =
+    let at-prefix-rows = c .before .before .before in
+    let at-if1 = at-prefix-rows .before in
+    let at-cut-length = at-if1 .before in
+    rw (← at-cut-length .cut-length .ensures, ne-eqb _ 0 (at-if1 .if1 .left), ← at-prefix-rows .prefix-rows .ensures) (c .prefix-target .ensures ∙ sym (else-none _ _ (c .before .if2 .left)))
 
 pub prefix-column-spec : {M : Type 1} → statement M
 prefix-column-spec =

@@ -3,8 +3,8 @@ use mathlib.Core.Path.{_≡_, _∙_}
 use native.Mathlib.Omega.{arith}
 use borrow.Author.Needs.{needs}
 use Rattle.checks.specs.Batch.{prefixesOf}
-use Rattle.checks.specs.Faults.{noFault, firstFault, prefixColumn}
-use Rattle.checks.proofs.faults.Rows.{prefixes-none, prefixes-more, prefixes-hit, prefixes-end}
+use Rattle.checks.specs.Faults.{noFault, firstFault, prefixColumn, prefixFault}
+use Rattle.checks.proofs.faults.Rows.{prefixes-blank, columns-none, columns-more, columns-hit, columns-end}
 use Rattle.checks.proofs.faults.prefix.prefix_fault.Statement.{statement}
 use Rattle.checks.proofs.faults.prefix.prefix_fault.Tie as tie
 
@@ -16,15 +16,19 @@ abbrev μ-loop : tie.MeasureT-loop
 μ-loop t-hist r-hist seq-len batch seq-lens delta-ts labels weights c₀ c = batch - c
 
 loop-holds : tie.Need-loop-holds Inv-loop μ-loop
-loop-holds c = (search needs, prefixes-none _)
+loop-holds c = (search needs, columns-none _ (prefixes-blank _))
 
 prefix-column-requires : tie.Need-prefix-column-requires Inv-loop μ-loop
 prefix-column-requires c κs = search needs
 
 returns : tie.Need-returns Inv-loop μ-loop
+unfolding prefixFault
 returns c =
-    let a = c .before .before .before .before .loop in
-    prefixes-hit _ (a .c) _ (c .before .before .before .loop-test .taken) (a .inv .1) (c .before .before .prefix-column .ensures) (c .if1 .taken)
+    let at-prefix-column = c .before .before in
+    let at-loop-test = at-prefix-column .before in
+    let at-loop = at-loop-test .before in
+    let a = at-loop .loop in
+    columns-hit _ (prefixes-blank _) (a .c) _ _ (at-loop-test .loop-test .taken) (a .inv .1) (at-prefix-column .prefix-column .ensures) (c .if1 .taken)
 
 add-c : tie.Need-add-c Inv-loop μ-loop
 add-c c = search needs
@@ -34,16 +38,21 @@ loop-less c = search needs
 
 loop-again : tie.Need-loop-again Inv-loop μ-loop
 loop-again c =
-    let a = c .before .before .before .before .loop in (search needs, prefixes-more _ (a .c) _ (a .inv .1) (c .before .before .prefix-column .ensures) (c .if1 .left))
+    let at-prefix-column = c .before .before in
+    let at-loop = at-prefix-column .before .before in
+    let a = at-loop .loop in (search needs, columns-more _ (prefixes-blank _) (a .c) _ (a .inv .1) (at-prefix-column .prefix-column .ensures) (c .if1 .left))
 
 no-fault-requires : tie.Need-no-fault-requires Inv-loop μ-loop
 no-fault-requires c κs = search needs
 
 returns-2 : tie.Need-returns-2 Inv-loop μ-loop
+unfolding prefixFault
 returns-2 c =
-    let l = c .before .before .loop in
-    let e : l .c ≡ c .before .before .before .before .before .before .before .before .before .args .batch = omega (arith, l .inv .0, c .before .loop-test .left) in
-    c .no-fault .ensures ∙ prefixes-end _ _ e (l .inv .1)
+    let at-loop = c .before .before in
+    let at-args = at-loop .before .before .before .before .before .before .before in
+    let l = at-loop .loop in
+    let e : l .c ≡ at-args .args .batch = omega (arith, l .inv .0, c .before .loop-test .left) in
+    c .no-fault .ensures ∙ columns-end _ (prefixes-blank _) _ _ e (l .inv .1)
 
 pub prefix-fault-spec : {M : Type 1} → statement M
 prefix-fault-spec =

@@ -3,18 +3,19 @@ use mathlib.Core.Path.{_≡_, _∙_}
 use native.Mathlib.Omega.{arith}
 use borrow.Author.Needs.{needs}
 use Rattle.checks.specs.Faults.{noFault, prefixRows}
-use Rattle.checks.proofs.faults.Rows.{prefix-none, prefix-more, prefix-hit, prefix-end}
+use Rattle.checks.specs.Batch.{historyOf}
+use Rattle.checks.proofs.faults.Rows.{rows-none, rows-more, rows-hit, rows-end}
 use Rattle.checks.proofs.faults.prefix.prefix_rows.Statement.{statement}
 use Rattle.checks.proofs.faults.prefix.prefix_rows.Tie as tie
 
 abbrev Inv-loop : tie.InvT-loop
-Inv-loop t-hist r-hist batch column n i₀ i = (i ≤ n) × (prefixRows t-hist r-hist batch column i ≡ noFault)
+Inv-loop t-hist r-hist batch column n i₀ i = (i ≤ n) × (prefixRows (historyOf t-hist r-hist batch column) column i ≡ noFault)
 
 abbrev μ-loop : tie.MeasureT-loop
 μ-loop t-hist r-hist batch column n i₀ i = n - i
 
 loop-holds : tie.Need-loop-holds Inv-loop μ-loop
-loop-holds c = (search needs, prefix-none _ _ _ _)
+loop-holds c = (search needs, rows-none _ _)
 
 cell-of-requires : tie.Need-cell-of-requires Inv-loop μ-loop
 cell-of-requires c κs = search needs
@@ -30,8 +31,12 @@ prefix-row-requires c κs = search needs
 
 returns : tie.Need-returns Inv-loop μ-loop
 returns c =
-    let a = c .before .before .before .before .before .before in
-    prefix-hit _ _ _ _ (a .loop .i) _ (c .before .prefix-row .result) (c .before .before .before .before .before .loop-test .taken) (a .loop .inv .1) (rw (c .before .prefix-row .ensures, c .before .before .read2 .ensures, c .before .before .before .read .ensures, c .before .before .before .before .cell-of .ensures)) (c .if1 .taken)
+    let at-read2 = c .before .before in
+    let at-read = at-read2 .before in
+    let at-cell-of = at-read .before in
+    let at-before = at-cell-of .before in
+    let a = at-before .before in
+    rows-hit _ _ (a .loop .i) _ (c .before .prefix-row .result) (at-before .loop-test .taken) (a .loop .inv .1) (rw (c .before .prefix-row .ensures, at-read2 .read2 .ensures, at-read .read .ensures, at-cell-of .cell-of .ensures)) (c .if1 .taken)
 
 add-i : tie.Need-add-i Inv-loop μ-loop
 add-i c = search needs
@@ -41,17 +46,23 @@ loop-less c = search needs
 
 loop-again : tie.Need-loop-again Inv-loop μ-loop
 loop-again c =
-    let a = c .before .before .before .before .before .before in
-    (search needs, prefix-more _ _ _ _ (a .loop .i) (c .before .prefix-row .result) (a .loop .inv .1) (rw (c .before .prefix-row .ensures, c .before .before .read2 .ensures, c .before .before .before .read .ensures, c .before .before .before .before .cell-of .ensures)) (c .if1 .left))
+    let at-read2 = c .before .before in
+    let at-read = at-read2 .before in
+    let at-cell-of = at-read .before in
+    let at-before = at-cell-of .before in
+    let a = at-before .before in
+    (search needs, rows-more _ _ (a .loop .i) (c .before .prefix-row .result) (a .loop .inv .1) (rw (c .before .prefix-row .ensures, at-read2 .read2 .ensures, at-read .read .ensures, at-cell-of .cell-of .ensures)) (c .if1 .left))
 
 no-fault-requires : tie.Need-no-fault-requires Inv-loop μ-loop
 no-fault-requires c κs = search needs
 
 returns-2 : tie.Need-returns-2 Inv-loop μ-loop
 returns-2 c =
-    let l = c .before .before .loop in
-    let e : l .i ≡ c .before .before .before .before .before .args .n = omega (arith, l .inv .0, c .before .loop-test .left) in
-    c .no-fault .ensures ∙ prefix-end _ _ _ _ _ _ e (l .inv .1)
+    let at-loop = c .before .before in
+    let at-args = at-loop .before .before .before in
+    let l = at-loop .loop in
+    let e : l .i ≡ at-args .args .n = omega (arith, l .inv .0, c .before .loop-test .left) in
+    c .no-fault .ensures ∙ rows-end _ _ _ _ e (l .inv .1)
 
 pub prefix-rows-spec : {M : Type 1} → statement M
 prefix-rows-spec =

@@ -20,7 +20,11 @@ fault-at-requires c κs = search needs
 
 returns : tie.Need-returns
 unfolding targetFault
-returns c = rw (c .fault-at .ensures, c .before .target-row .ensures, c .before .before .read3 .ensures, c .before .before .before .read2 .ensures, c .before .before .before .before .read .ensures)
+returns c =
+    let at-read3 = c .before .before in
+    let at-read2 = at-read3 .before in
+    let at-read = at-read2 .before in
+    rw (c .fault-at .ensures, c .before .target-row .ensures, at-read3 .read3 .ensures, at-read2 .read2 .ensures, at-read .read .ensures)
 
 pub prefix-target-spec : {M : Type 1} → statement M
 prefix-target-spec =

@@ -4,7 +4,7 @@ use mathlib.Core.Bool.{Bool}
 use Prim.Native.Nat.{_+_, _*_, _^_}
 use borrow.Author.Needs.{needs}
 use Rattle.kernels.specs.Core.{biased}
-use Rattle.kernels.specs.ExpSteps.{Holds}
+use Rattle.kernels.specs.inner.Exp.{Holds}
 use Rattle.kernels.proofs.exp.power.biased.Statement.{statement}
 use Rattle.kernels.proofs.exp.power.biased.Tie as tie
 

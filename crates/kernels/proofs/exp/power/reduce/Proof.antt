@@ -5,7 +5,7 @@ use native.Mathlib.Omega.{arith}
 use lib.Arith.{digits-div, digits-mod}
 use Rattle.table.specs.Exact.{N}
 use Rattle.kernels.specs.declared.exp.power.Reduced.{Reduced}
-use Rattle.kernels.specs.ExpSteps.{Divided}
+use Rattle.kernels.specs.inner.Exp.{Divided}
 use borrow.Author.Needs.{needs}
 use Rattle.kernels.proofs.exp.power.reduce.Statement.{statement}
 use Rattle.kernels.proofs.exp.power.reduce.Tie as tie

@@ -1,6 +1,6 @@
+use borrow.Author.Needs.{needs}
 use Rattle.domain.proofs.Literals.{nine-tenths}
 use Rattle.model_v6.specs.Curve.{factorDef}
-use borrow.Author.Needs.{needs}
 use Rattle.model_v6.proofs.formulas.curve.factor.Statement.{statement}
 use Rattle.model_v6.proofs.formulas.curve.factor.Tie as tie
 

@@ -1,7 +1,7 @@
-use Rattle.domain.proofs.Literals.{ten-thousandth}
-use Rattle.model_v6.proofs.formulas.curve.Literals.{greatest-retention}
-use Rattle.model_v6.specs.Curve.{intervalDef}
 use borrow.Author.Needs.{needs}
+use Rattle.domain.proofs.Literals.{ten-thousandth}
+use Rattle.model_v6.specs.Curve.{intervalDef}
+use Rattle.model_v6.proofs.formulas.curve.Literals.{greatest-retention}
 use Rattle.model_v6.proofs.formulas.curve.next_interval.Statement.{statement}
 use Rattle.model_v6.proofs.formulas.curve.next_interval.Tie as tie
 
@@ -26,14 +26,15 @@ clamp-interval-requires c κs = search needs
 returns : tie.Need-returns
 unfolding intervalDef
 returns c =
+    let clamped = c .before .before .before .before in
     rw (
       ten-thousandth,
       greatest-retention,
       c .clamp-interval .ensures,
       c .before .pow-f32 .ensures,
       c .before .before .factor .ensures,
-      c .before .before .before .before .clamp .ensures,
-      c .before .before .before .before .before .floor-stability .ensures,
+      clamped .clamp .ensures,
+      clamped .before .floor-stability .ensures,
     )
 
 pub next-interval-spec : {M : Type 1} → statement M

@@ -1,5 +1,5 @@
-use Rattle.model_v6.specs.Curve.{curveDef}
 use borrow.Author.Needs.{needs}
+use Rattle.model_v6.specs.Curve.{curveDef}
 use Rattle.model_v6.proofs.formulas.curve.power_forgetting_curve.Statement.{statement}
 use Rattle.model_v6.proofs.formulas.curve.power_forgetting_curve.Tie as tie
 
@@ -24,12 +24,13 @@ pow-f32-requires c κs = search needs
 returns : tie.Need-returns
 unfolding curveDef
 returns c =
+    let factor = c .before .before .before in
     rw (
       c .pow-f32 .ensures,
       c .before .fma-f32 .ensures,
       c .before .before .whole-days .ensures,
-      c .before .before .before .factor .ensures,
-      c .before .before .before .before .before .floor-stability .ensures,
+      factor .factor .ensures,
+      factor .before .before .floor-stability .ensures,
     )
 
 pub power-forgetting-curve-spec : {M : Type 1} → statement M

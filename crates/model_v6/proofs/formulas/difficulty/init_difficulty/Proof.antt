@@ -1,5 +1,5 @@
-use Rattle.model_v6.specs.Difficulty.{initDifficultyDef}
 use borrow.Author.Needs.{needs}
+use Rattle.model_v6.specs.Difficulty.{initDifficultyDef}
 use Rattle.model_v6.proofs.formulas.difficulty.init_difficulty.Statement.{statement}
 use Rattle.model_v6.proofs.formulas.difficulty.init_difficulty.Tie as tie
 
@@ -17,8 +17,7 @@ exp-f32-requires c κs = search needs
 
 returns : tie.Need-returns
 unfolding initDifficultyDef
-returns c =
-    rw (c .exp-f32 .ensures, c .before .rating-offset .ensures)
+returns c = rw (c .exp-f32 .ensures, c .before .rating-offset .ensures)
 
 pub init-difficulty-spec : {M : Type 1} → statement M
 init-difficulty-spec =

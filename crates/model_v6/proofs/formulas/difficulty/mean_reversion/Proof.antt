@@ -1,5 +1,5 @@
-use Rattle.model_v6.specs.Difficulty.{meanReversionDef}
 use borrow.Author.Needs.{needs}
+use Rattle.model_v6.specs.Difficulty.{meanReversionDef}
 use Rattle.model_v6.proofs.formulas.difficulty.mean_reversion.Statement.{statement}
 use Rattle.model_v6.proofs.formulas.difficulty.mean_reversion.Tie as tie
 

@@ -1,5 +1,5 @@
-use Rattle.model_v6.specs.Difficulty.{nextDifficultyDef}
 use borrow.Author.Needs.{needs}
+use Rattle.model_v6.specs.Difficulty.{nextDifficultyDef}
 use Rattle.model_v6.proofs.formulas.difficulty.next_difficulty.Statement.{statement}
 use Rattle.model_v6.proofs.formulas.difficulty.next_difficulty.Tie as tie
 

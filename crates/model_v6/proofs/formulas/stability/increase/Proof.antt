@@ -1,6 +1,6 @@
+use borrow.Author.Needs.{needs}
 use borrow.Author.Tests.{le-leb, lt-leb}
 use Rattle.model_v6.specs.Stability.{increaseDef}
-use borrow.Author.Needs.{needs}
 use Rattle.model_v6.proofs.formulas.stability.increase.Statement.{statement}
 use Rattle.model_v6.proofs.formulas.stability.increase.Tie as tie
 

@@ -1,5 +1,5 @@
-use Rattle.model_v6.specs.Stability.{successDef}
 use borrow.Author.Needs.{needs}
+use Rattle.model_v6.specs.Stability.{stabilityAfterSuccess}
 use Rattle.model_v6.proofs.formulas.stability.stability_after_success.Statement.{statement}
 use Rattle.model_v6.proofs.formulas.stability.stability_after_success.Tie as tie
 
@@ -37,15 +37,18 @@ clamp-stability-requires : tie.Need-clamp-stability-requires
 clamp-stability-requires c κs = search needs
 
 returns : tie.Need-returns
-unfolding successDef
+unfolding stabilityAfterSuccess
 returns c =
+    let pow = c .before .before .before in
+    let exp = pow .before .before in
+    let bonus = exp .before .before in
     rw (
       c .clamp-stability .ensures,
       c .before .exp-f322 .ensures,
-      c .before .before .before .pow-f32 .ensures,
-      c .before .before .before .before .before .exp-f32 .ensures,
-      c .before .before .before .before .before .before .before .choose2 .ensures,
-      c .before .before .before .before .before .before .before .before .before .choose .ensures,
+      pow .pow-f32 .ensures,
+      exp .exp-f32 .ensures,
+      bonus .choose2 .ensures,
+      bonus .before .before .choose .ensures,
     )
 
 pub stability-after-success-spec : {M : Type 1} → statement M

@@ -1,5 +1,5 @@
-use Rattle.model_v6.specs.Stability.{shortTermDef}
 use borrow.Author.Needs.{needs}
+use Rattle.model_v6.specs.Stability.{stabilityShortTerm}
 use Rattle.model_v6.proofs.formulas.stability.stability_short_term.Statement.{statement}
 use Rattle.model_v6.proofs.formulas.stability.stability_short_term.Tie as tie
 
@@ -28,14 +28,16 @@ clamp-stability-requires : tie.Need-clamp-stability-requires
 clamp-stability-requires c κs = search needs
 
 returns : tie.Need-returns
-unfolding shortTermDef
+unfolding stabilityShortTerm
 returns c =
+    let pow = c .before .before in
+    let exp = pow .before .before in
     rw (
       c .clamp-stability .ensures,
       c .before .increase .ensures,
-      c .before .before .pow-f32 .ensures,
-      c .before .before .before .before .exp-f32 .ensures,
-      c .before .before .before .before .before .before .before .nearest-u32-to-f32 .ensures,
+      pow .pow-f32 .ensures,
+      exp .exp-f32 .ensures,
+      exp .before .before .before .nearest-u32-to-f32 .ensures,
     )
 
 pub stability-short-term-spec : {M : Type 1} → statement M

@@ -1,5 +1,5 @@
 use borrow.Author.Tests.{lt-ltb, le-ltb}
-use Rattle.model_v6.specs.State.{clampRating}
+use Rattle.model_v6.specs.NextState.{clampRating}
 use Rattle.model_v6.proofs.formulas.state.clamp_rating.Statement.{statement}
 use Rattle.model_v6.proofs.formulas.state.clamp_rating.Tie as tie
 

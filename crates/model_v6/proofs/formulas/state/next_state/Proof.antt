@@ -1,5 +1,5 @@
-use Rattle.model_v6.specs.State.{nextStateDef}
 use borrow.Author.Needs.{needs}
+use Rattle.model_v6.specs.NextState.{nextStateDef}
 use Rattle.model_v6.proofs.formulas.state.next_state.Statement.{statement}
 use Rattle.model_v6.proofs.formulas.state.next_state.Tie as tie
 
@@ -27,14 +27,16 @@ next-difficulty-requires c κs = search needs
 returns : tie.Need-returns
 unfolding nextStateDef
 returns c =
+    let curve = c .before .before in
+    let clamped = curve .before .before in
     rw (
       c .next-difficulty .ensures,
       c .before .stability-after .ensures,
-      c .before .before .power-forgetting-curve .ensures,
-      c .before .before .before .clamp-difficulty .ensures,
-      c .before .before .before .before .clamp-stability .ensures,
-      c .before .before .before .before .before .whole-days .ensures,
-      c .before .before .before .before .before .before .clamp-rating .ensures,
+      curve .power-forgetting-curve .ensures,
+      curve .before .clamp-difficulty .ensures,
+      clamped .clamp-stability .ensures,
+      clamped .before .whole-days .ensures,
+      clamped .before .before .clamp-rating .ensures,
     )
 
 pub next-state-spec : {M : Type 1} → statement M

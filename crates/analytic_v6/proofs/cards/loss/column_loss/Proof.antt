@@ -1,0 +1,58 @@
+use mathlib.Core.Path.{_∙_}
+use Rattle.analytic_v6.proofs.cards.Columns.{empty-loss, loss-of}
+use borrow.Author.Needs.{needs}
+use Rattle.analytic_v6.proofs.cards.loss.column_loss.Statement.{statement}
+use Rattle.analytic_v6.proofs.cards.loss.column_loss.Tie as tie
+
+cut-length-requires : tie.Need-cut-length-requires
+cut-length-requires c κs = search needs
+
+returns : tie.Need-returns
+returns c = empty-loss _ _ _ _ (c .before .cut-length .ensures) (c .if1 .taken)
+
+sub-m : tie.Need-sub-m
+sub-m c = search needs
+
+card-forward-requires : tie.Need-card-forward-requires
+card-forward-requires c κs = search needs
+
+cell-of-requires : tie.Need-cell-of-requires
+cell-of-requires c κs = search needs
+
+read-requires : tie.Need-read-requires
+read-requires c κs = search needs
+
+read-requires-2 : tie.Need-read-requires-2
+read-requires-2 c κs = search needs
+
+read-requires-3 : tie.Need-read-requires-3
+read-requires-3 c κs = search needs
+
+last-loss-requires : tie.Need-last-loss-requires
+last-loss-requires c κs = search needs
+
+returns-2 : tie.Need-returns-2
+returns-2 c =
+    let at-read2 = c .before .before in
+    let at-read = at-read2 .before in
+    let at-cell-of = at-read .before in
+    let at-card-forward = at-cell-of .before .before in
+    let at-if1 = at-card-forward .before in
+    let at-cut-length = at-if1 .before in
+    c .last-loss .ensures ∙
+    loss-of _ _ _ _ (at-cut-length .cut-length .ensures) (at-if1 .if1 .left) (at-card-forward .card-forward .result) _ _ _ (at-card-forward .card-forward .ensures) (rw (at-read .read .ensures, at-cell-of .cell-of .ensures)) (rw (at-read2 .read2 .ensures, at-cell-of .cell-of .ensures)) (rw (c .before .read3 .ensures, at-cell-of .cell-of .ensures))
+
+pub column-loss-spec : {M : Type 1} → statement M
+column-loss-spec =
+    tie.close
+    (tie.spec
+    cut-length-requires
+    returns
+    sub-m
+    card-forward-requires
+    cell-of-requires
+    read-requires
+    read-requires-2
+    read-requires-3
+    last-loss-requires
+    returns-2)

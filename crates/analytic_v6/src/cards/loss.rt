@@ -1,0 +1,106 @@
+// The card loss of analytic_v6.rs alone.
+ghost use mathlib.Core.Path.{_≡_};
+ghost use Rattle.checks.specs.Columns.{total};
+ghost use Rattle.checks.specs.Batch.{cardsOf};
+ghost use Rattle.analytic_v6.specs.Cards.{cardLoss, cardsLoss};
+use crate::answers::Loss;
+use checks::refusals::card_loss_refusal;
+use checks::tables::cell_of;
+use checks::tables::cut_length;
+use checks::tables::read;
+use columns::forward_pass::card_forward;
+use columns::last_review::last_loss;
+use domain::weights::copy_weights;
+use forward::parameters::RuntimeParams;
+use forward::parameters::runtime_params;
+
+fn column_loss(
+    p: RuntimeParams,
+    t_hist: &[f32],
+    r_hist: &[f32],
+    seq_len: u32,
+    batch: u32,
+    seq_lens: &[u32],
+    labels: &[f32],
+    weights: &[f32],
+    column: u32,
+) -> f64
+    ensures { λ r. ⌜
+        r ≡ cardLoss p (cardsOf (now («t_hist» .entry)) (now («r_hist» .entry)) «seq_len» batch (now («seq_lens» .entry))
+        (now (labels .entry)) (now (weights .entry))) column ⌝ }
+{
+    let n = cut_length(seq_lens, seq_len, column);
+    if n == 0 {
+        return 0.0;
+    }
+    let m = n - 1;
+    let run = card_forward(p, t_hist, r_hist, batch, labels, weights, column, m);
+    let state = run.state;
+    let k = cell_of(m, batch, column);
+    let day = read(t_hist, k);
+    let label = read(labels, k);
+    let weight = read(weights, k);
+    last_loss(p, m, state.s, day, label, weight, run.loss)
+}
+
+fn batch_total(
+    p: RuntimeParams,
+    t_hist: &[f32],
+    r_hist: &[f32],
+    seq_len: u32,
+    batch: u32,
+    seq_lens: &[u32],
+    labels: &[f32],
+    weights: &[f32],
+) -> f64
+    ensures { λ r. ⌜
+        r ≡ total (cardLoss p (cardsOf (now («t_hist» .entry)) (now («r_hist» .entry)) «seq_len» batch (now («seq_lens» .entry))
+        (now (labels .entry)) (now (weights .entry)))) batch ⌝ }
+{
+    let mut loss = 0.0;
+    let mut c = 0;
+    while c < batch {
+        let part = column_loss(
+            p,
+            t_hist,
+            r_hist,
+            seq_len,
+            batch,
+            seq_lens,
+            labels,
+            weights,
+            c,
+        );
+        loss = loss + part;
+        c += 1;
+    }
+    loss
+}
+
+// The summed loss of a batch of cards. Nothing is lent to it but what it reads.
+pub fn card_loss(
+    w: &[f32],
+    t_hist: &[f32],
+    r_hist: &[f32],
+    seq_len: u32,
+    batch: u32,
+    seq_lens: &[u32],
+    labels: &[f32],
+    weights: &[f32],
+) -> Loss
+    ensures { λ r. ⌜
+        r ≡ cardsLoss (now (w .entry)) (cardsOf (now («t_hist» .entry)) (now («r_hist» .entry)) «seq_len» batch
+        (now («seq_lens» .entry)) (now (labels .entry)) (now (weights .entry))) ⌝ }
+{
+    let n = card_loss_refusal(w, t_hist, r_hist, seq_len, batch, seq_lens, labels, weights);
+    if n != 0 {
+        return Loss {
+            refusal: n,
+            loss: 0.0,
+        };
+    }
+    let v = copy_weights(w);
+    let p = runtime_params(&v);
+    let loss = batch_total(p, t_hist, r_hist, seq_len, batch, seq_lens, labels, weights);
+    Loss { refusal: 0, loss }
+}

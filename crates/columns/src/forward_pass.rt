@@ -1,0 +1,160 @@
+// Forward down one column of a batch, from the state (0, 0): the states alone, and for a gradient with each step's record in
+// its row. A card's rows are scored on the way, each by the state before its review.
+ghost use mathlib.Core.Path.{_≡_};
+ghost use Rattle.checks.specs.Batch.{view, historyOf};
+ghost use Rattle.columns.specs.ForwardPass.{rowScore, stateAt, storedDef, runAt, gradsDef};
+use crate::records::store_step;
+use crate::scores::Score;
+use crate::scores::bce_loss_and_grad_r;
+use checks::tables::cell_of;
+use checks::tables::read;
+use checks::tables::write_f64;
+use forward::parameters::RuntimeParams;
+use forward::state::State;
+use forward::step::step_forward;
+
+// The state after the rows so far, and their loss.
+pub struct Run {
+    pub state: State,
+    pub loss: f64,
+}
+
+pub fn prefix_forward(
+    p: RuntimeParams,
+    t_hist: &[f32],
+    r_hist: &[f32],
+    batch: u32,
+    column: u32,
+    n: u32,
+) -> State
+    ensures { λ r. ⌜ r ≡ stateAt p (historyOf (now («t_hist» .entry)) (now («r_hist» .entry)) batch column) n ⌝ }
+{
+    let mut q = State { s: 0.0, d: 0.0 };
+    let mut i = 0;
+    while i < n {
+        let k = cell_of(i, batch, column);
+        let day = read(t_hist, k);
+        let rating = read(r_hist, k);
+        let next = step_forward(p, q, day, rating, i as usize);
+        q = next.state;
+        i += 1;
+    }
+    q
+}
+
+pub fn prefix_forward_recorded(
+    p: RuntimeParams,
+    t_hist: &[f32],
+    r_hist: &[f32],
+    batch: u32,
+    column: u32,
+    n: u32,
+    records: &mut [f32],
+) -> State
+    ensures { λ r. ⌜
+        (r ≡ stateAt p (historyOf (now («t_hist» .entry)) (now («r_hist» .entry)) batch column) n) ×
+        (now (records .exit) ≡ storedDef p (historyOf (now («t_hist» .entry)) (now («r_hist» .entry)) batch column) n
+        (now (records .entry))) ⌝ }
+{
+    let mut q = State { s: 0.0, d: 0.0 };
+    let mut i = 0;
+    while i < n {
+        let k = cell_of(i, batch, column);
+        let day = read(t_hist, k);
+        let rating = read(r_hist, k);
+        let next = step_forward(p, q, day, rating, i as usize);
+        let step = next.step;
+        store_step(records, i, step);
+        q = next.state;
+        i += 1;
+    }
+    q
+}
+
+// Row 0 has no state before it to score.
+pub(crate) fn row_score(row: u32, r: f32, label: f32, weight: f32) -> Score
+    ensures { λ q. ⌜ q ≡ rowScore row r label weight ⌝ }
+{
+    if row == 0 {
+        return Score {
+            loss: 0.0,
+            g_r: 0.0,
+        };
+    }
+    bce_loss_and_grad_r(r, label, weight)
+}
+
+pub fn card_forward(
+    p: RuntimeParams,
+    t_hist: &[f32],
+    r_hist: &[f32],
+    batch: u32,
+    labels: &[f32],
+    weights: &[f32],
+    column: u32,
+    n: u32,
+) -> Run
+    ensures { λ r. ⌜
+        r ≡ runAt p (historyOf (now («t_hist» .entry)) (now («r_hist» .entry)) batch column)
+        (view (now (labels .entry)) batch column) (view (now (weights .entry)) batch column) n ⌝ }
+{
+    let mut q = State { s: 0.0, d: 0.0 };
+    let mut loss = 0.0;
+    let mut i = 0;
+    while i < n {
+        let k = cell_of(i, batch, column);
+        let day = read(t_hist, k);
+        let rating = read(r_hist, k);
+        let label = read(labels, k);
+        let weight = read(weights, k);
+        let next = step_forward(p, q, day, rating, i as usize);
+        let step = next.step;
+        let score = row_score(i, step.retrievability, label, weight);
+        loss = loss + score.loss;
+        q = next.state;
+        i += 1;
+    }
+    Run { state: q, loss }
+}
+
+pub fn card_forward_recorded(
+    p: RuntimeParams,
+    t_hist: &[f32],
+    r_hist: &[f32],
+    batch: u32,
+    labels: &[f32],
+    weights: &[f32],
+    column: u32,
+    n: u32,
+    records: &mut [f32],
+    step_grads: &mut [f64],
+) -> Run
+    ensures { λ r. ⌜
+        (r ≡ runAt p (historyOf (now («t_hist» .entry)) (now («r_hist» .entry)) batch column)
+        (view (now (labels .entry)) batch column) (view (now (weights .entry)) batch column) n) ×
+        (now (records .exit) ≡ storedDef p (historyOf (now («t_hist» .entry)) (now («r_hist» .entry)) batch column) n
+        (now (records .entry))) ×
+        (now («step_grads» .exit) ≡ gradsDef p (historyOf (now («t_hist» .entry)) (now («r_hist» .entry)) batch column)
+        (view (now (labels .entry)) batch column) (view (now (weights .entry)) batch column) n (now («step_grads» .entry))) ⌝ }
+{
+    let mut q = State { s: 0.0, d: 0.0 };
+    let mut loss = 0.0;
+    let mut i = 0;
+    while i < n {
+        let k = cell_of(i, batch, column);
+        let day = read(t_hist, k);
+        let rating = read(r_hist, k);
+        let label = read(labels, k);
+        let weight = read(weights, k);
+        let next = step_forward(p, q, day, rating, i as usize);
+        let step = next.step;
+        let score = row_score(i, step.retrievability, label, weight);
+        let g_r = score.g_r;
+        store_step(records, i, step);
+        write_f64(step_grads, i as usize, g_r);
+        loss = loss + score.loss;
+        q = next.state;
+        i += 1;
+    }
+    Run { state: q, loss }
+}

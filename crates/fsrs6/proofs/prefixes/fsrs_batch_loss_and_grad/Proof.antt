@@ -1,0 +1,25 @@
+use mathlib.Core.Path.{ap}
+use borrow.Author.Needs.{needs}
+use Rattle.fsrs6.proofs.prefixes.fsrs_batch_loss_and_grad.Statement.{statement}
+use Rattle.fsrs6.proofs.prefixes.fsrs_batch_loss_and_grad.Tie as tie
+
+batch-loss-and-grad-requires : tie.Need-batch-loss-and-grad-requires
+batch-loss-and-grad-requires c κs = search needs
+
+put-f64-requires : tie.Need-put-f64-requires
+put-f64-requires c κs = search needs
+
+same-length : tie.Need-same-length
+same-length c = search needs
+
+same-length-2 : tie.Need-same-length-2
+same-length-2 c = search needs
+
+returns : tie.Need-returns
+returns c =
+    let e = c .before .before .before .before .before .before .batch-loss-and-grad .ensures in ((ap (λ a. a .refusal) (e .0), rw (c .put-f64 .ensures, e .0)), e .1)
+
+pub fsrs-batch-loss-and-grad-spec : {M : Type 1} → statement M
+fsrs-batch-loss-and-grad-spec =
+    tie.close
+    (tie.spec batch-loss-and-grad-requires put-f64-requires same-length same-length-2 returns)

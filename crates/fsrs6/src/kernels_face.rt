@@ -1,2 +1,0 @@
-// The C functions for the kernels. Each is one call of the crate that proves it.
-pub mod scalar;

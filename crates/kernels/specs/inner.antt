@@ -1,0 +1,3 @@
+-- What private functions promise one another: no reader of a public contract needs these.
+pub mod Exp
+pub mod Ln

@@ -1,0 +1,93 @@
+-- Demand 3 of the four loss entries themselves: said of their own contracts, as `promises` says it of the definitions. Assumes nothing.
+use Prim.Native.Nat.{ℕ}
+use mathlib.Core.Bool.{false}
+use mathlib.Core.List.{List}
+use mathlib.Core.Path.{_≡_}
+use contract.Lifetimes.{Lfts}
+use denote.Ref.{now}
+use denote.Triple.Clauses.{AtExit}
+use borrow.Fn.Kinds.{PK, RK, Out, Dens, endedOf}
+use lib.Ieee.{Float}
+use lib.ListN.{length}
+use Rattle.domain.specs.Weights.{_!_}
+use Rattle.checks.specs.Batch.{Prefixes, Cards, prefixesOf, cardsOf}
+use Rattle.analytic_v6.proofs.prefixes.grad.batch_loss_and_grad
+use Rattle.analytic_v6.proofs.prefixes.loss.batch_loss
+use Rattle.analytic_v6.proofs.cards.grad.card_loss_and_grad
+use Rattle.analytic_v6.proofs.cards.loss.card_loss
+use Rattle.promises.specs.LossCalls.{Call, Kind, prefixes, cards}
+use Rattle.promises.specs.Frozen.{SameInputs, SameWeights, Alike, mayMove}
+use Rattle.outcomes.specs.Outcome.{Outcome, left, Satisfies}
+
+-- An entry with the gradient, of the kind K, whose contract is C: `call`, what its arguments are to `promises`, and `slots`, where
+-- the slots stand among its parameters at exit
+module _ {n : ℕ} (ps : List (PK n)) (r : RK n) (C : Out n ps r) (K : Kind)
+    (call : (κs : Lfts n) → Dens κs ps → Call (K .Input)) (slots : (κs : Lfts n) → AtExit (endedOf n ps r) κs → List Float) where
+  pub record Entry : Type 0 where
+    -- 'both get the same refusal, or the same loss and all 21 gradients'
+    pub same :
+        (κs : Lfts n) (a b : Dens κs ps) (o : Outcome ps r κs a) (q : Outcome ps r κs b) → Satisfies ps r C κs a o → Satisfies ps r C κs b q →
+        Alike K (call κs a) (call κs b) → (o .0 ≡ q .0) × (slots κs (left ps r κs a o) ≡ slots κs (left ps r κs b q))
+    -- 'In an accepted call every gradient slot that document 01 does not let the taken branches move keeps its bits.'
+    pub kept :
+        (κs : Lfts n) (a : Dens κs ps) (o : Outcome ps r κs a) → Satisfies ps r C κs a o →
+        (k : ℕ) → K .refusal (call κs a) ≡ 0 → mayMove K (call κs a) k ≡ false →
+        slots κs (left ps r κs a o) ! k ≡ call κs a .gw ! k
+
+-- A loss-only entry: its weights and its input
+module _ {n : ℕ} (ps : List (PK n)) (r : RK n) (C : Out n ps r) (K : Kind)
+    (weights : (κs : Lfts n) → Dens κs ps → List Float) (input : (κs : Lfts n) → Dens κs ps → K .Input) where
+  pub record Alone : Type 0 where
+    pub same :
+        (κs : Lfts n) (a b : Dens κs ps) (o : Outcome ps r κs a) (q : Outcome ps r κs b) → Satisfies ps r C κs a o → Satisfies ps r C κs b q →
+        SameInputs K (input κs a) (input κs b) →
+        SameWeights K (K .alone-refusal (weights κs a) (input κs a)) (input κs a) (weights κs a) (weights κs b) → o .0 ≡ q .0
+
+-- batch_loss_and_grad(w, t_hist, r_hist, seq_len, batch, seq_lens, delta_ts, labels, weights, gw, records)
+abbrev pub prefix-call : (κs : Lfts 9) → Dens κs batch_loss_and_grad.Kinds.ps → Call Prefixes
+prefix-call κs (w, (t-hist, (r-hist, (seq-len, (batch, (seq-lens, (delta-ts, (labels, (weights, (gw, (records, none))))))))))) =
+    record {
+      w = now w;
+      x = prefixesOf (now t-hist) (now r-hist) seq-len batch (now seq-lens) (now delta-ts) (now labels) (now weights);
+      gw = now gw;
+      records = length (now records);
+      step-grads = 0;
+    }
+
+-- batch_loss(w, t_hist, r_hist, seq_len, batch, seq_lens, delta_ts, labels, weights)
+abbrev pub prefix-weights : (κs : Lfts 7) → Dens κs batch_loss.Kinds.ps → List Float
+prefix-weights κs (w, rest) = now w
+
+abbrev pub prefix-input : (κs : Lfts 7) → Dens κs batch_loss.Kinds.ps → Prefixes
+prefix-input κs (w, (t-hist, (r-hist, (seq-len, (batch, (seq-lens, (delta-ts, (labels, (weights, none))))))))) =
+    prefixesOf (now t-hist) (now r-hist) seq-len batch (now seq-lens) (now delta-ts) (now labels) (now weights)
+
+-- card_loss_and_grad(w, t_hist, r_hist, seq_len, batch, seq_lens, labels, weights, gw, records, step_grads)
+abbrev pub card-call : (κs : Lfts 9) → Dens κs card_loss_and_grad.Kinds.ps → Call Cards
+card-call κs (w, (t-hist, (r-hist, (seq-len, (batch, (seq-lens, (labels, (weights, (gw, (records, (step-grads, none))))))))))) =
+    record {
+      w = now w;
+      x = cardsOf (now t-hist) (now r-hist) seq-len batch (now seq-lens) (now labels) (now weights);
+      gw = now gw;
+      records = length (now records);
+      step-grads = length (now step-grads);
+    }
+
+-- card_loss(w, t_hist, r_hist, seq_len, batch, seq_lens, labels, weights)
+abbrev pub card-weights : (κs : Lfts 6) → Dens κs card_loss.Kinds.ps → List Float
+card-weights κs (w, rest) = now w
+
+abbrev pub card-input : (κs : Lfts 6) → Dens κs card_loss.Kinds.ps → Cards
+card-input κs (w, (t-hist, (r-hist, (seq-len, (batch, (seq-lens, (labels, (weights, none)))))))) =
+    cardsOf (now t-hist) (now r-hist) seq-len batch (now seq-lens) (now labels) (now weights)
+
+-- all four
+pub record FrozenEntries : Type 0 where
+  pub batch-grad :
+      Entry batch_loss_and_grad.Kinds.ps batch_loss_and_grad.Kinds.r batch_loss_and_grad.Reads.Post prefixes prefix-call
+      (λ κs e. now (e .1 .1 .1 .1 .1 .1 .1 .1 .1 .0))
+  pub batch : Alone batch_loss.Kinds.ps batch_loss.Kinds.r batch_loss.Reads.Post prefixes prefix-weights prefix-input
+  pub card-grad :
+      Entry card_loss_and_grad.Kinds.ps card_loss_and_grad.Kinds.r card_loss_and_grad.Reads.Post cards card-call
+      (λ κs e. now (e .1 .1 .1 .1 .1 .1 .1 .1 .0))
+  pub card : Alone card_loss.Kinds.ps card_loss.Kinds.r card_loss.Reads.Post cards card-weights card-input

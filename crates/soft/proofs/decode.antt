@@ -1,2 +1,0 @@
--- What the proofs of `decode` share.
-pub mod Kind
