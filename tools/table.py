@@ -1,8 +1,8 @@
 #!/usr/bin/env python3
-"""Writes the kernels' table: crates/table/src/lib.rt and the proof of its one function, an arm for each entry.
+"""Writes the kernels' two tables: the arms in crates/table/src, and the same numbers as lists in crates/table/specs/inner/Lists.antt.
 
-A constant array is built anew at each call, 2 KiB of stores; a `match` of constants is one load. So the entries are arms,
-and each arm has its own obligation: that its constant is `entry` of its number, which the check computes.
+A constant array is built anew at each call, 2 KiB of stores; a `match` of constants is one load. So the entries are arms. No arm has
+a proof: the contract of the `match` cites the list, and the rule is tested once over the whole list (crates/table/proofs/Rules.antt).
 """
 import os
 import sys
@@ -10,12 +10,19 @@ from fractions import Fraction
 from math import factorial
 
 N = 0xB17217F7D1CF79AB
-ENTRIES = 256
 
 
 def entry(i):
+    """Document 01: the whole part of 2^62 P(i N / 2^72), and 2^63 after the last."""
+    if i == 256:
+        return 2**63
     r = Fraction(i * N, 2**72)
     return int(2**62 * sum(r**j / factorial(j) for j in range(24)))
+
+
+POWERS = [entry(i) for i in range(256)]
+# the first entry at or above the end of each of 512 intervals of a significand
+FIRSTS = [next(i for i in range(257) if entry(i) >= (513 + k) << 53) for k in range(512)]
 
 
 def literal(n):
@@ -23,53 +30,105 @@ def literal(n):
     return "0x" + "_".join(digits[j : j + 4] for j in range(0, 16, 4))
 
 
-SOURCE = """// The fractional powers of two: 2^62 * 2^(i / 256), cut to a whole number; 2^63 from 256 on. `tools/table.py` writes this
-// file. A `match` of constants compiles to one load, where a constant array is built anew at each call.
-pub mod starts;
+SOURCE = """// The fractional powers of two: 2^62 * 2^(i / 256), cut to a whole number; 2^63 from 256 on. `tools/table.py` writes the
+// arms. A `match` of constants compiles to one load, where a constant array is built anew at each call.
+pub mod index;
 
 ghost use mathlib.Core.Path.{_≡_};
+ghost use Prim.Native.Nat.{_^_};
+ghost use lib.ListN.{getD};
 ghost use Rattle.table.specs.Entry.{entry};
+ghost use Rattle.table.specs.inner.Lists.{powers, None};
+
+fn past(i: u64) -> u64
+    requires { ⌜ None 256 i ⌝ }
+    ensures { λ r. ⌜ r ≡ getD powers i (2 ^ 63) ⌝ }
+{
+    0x8000_0000_0000_0000
+}
+
+fn stored(i: u64) -> u64
+    ensures { λ r. ⌜ r ≡ getD powers i (2 ^ 63) ⌝ }
+{
+    match i {
+%s        _ => past(i),
+    }
+}
 
 pub fn entry_at(i: u64) -> u64
     ensures { λ r. ⌜ r ≡ entry i ⌝ }
 {
-    match i {
-%s        _ => 0x8000_0000_0000_0000,
-    }
+    stored(i)
 }
 """
 
-PROOF = """-- `table::entry_at` meets its contract: each arm's constant is computed again from `entry`. `tools/table.py` writes this file. Assumes nothing.
-use Rattle.table.specs.Exact.{P, taylor, fact}
-use Rattle.table.specs.Entry.{entry}
-use Rattle.table.proofs.Arms.{arm, last}
-use Rattle.table.proofs.entry_at.Statement.{statement}
-use Rattle.table.proofs.entry_at.Tie as tie
+INDEX = """// The first entry at or above every significand of an interval, by the 9 digits below the leading one. `tools/table.py`
+// writes the arms.
+ghost use mathlib.Core.Path.{_≡_};
+ghost use Prim.Native.Nat.{_%%_};
+ghost use lib.ListN.{getD};
+ghost use Rattle.table.specs.Entry.{indexAt};
+ghost use Rattle.table.specs.inner.Lists.{firsts, None};
 
-%s
-pub entry-at-spec : {M : Type 1} → statement M
-entry-at-spec =
-    tie.close
-    (tie.spec
-%s)
+fn past(k: u64) -> u64
+    requires { ⌜ None 512 k ⌝ }
+    ensures { λ r. ⌜ r ≡ getD firsts k 256 ⌝ }
+{
+    256
+}
+
+fn stored(k: u64) -> u64
+    ensures { λ r. ⌜ r ≡ getD firsts k 256 ⌝ }
+{
+    match k {
+%s        _ => past(k),
+    }
+}
+
+// Of k the last 9 digits count.
+pub fn index_at(k: u64) -> u64
+    ensures { λ r. ⌜ r ≡ indexAt (k %% 512) ⌝ }
+{
+    stored(k %% 512)
+}
+"""
+
+LISTS = """-- The two tables' numbers as the code has them: `proofs/Rules.antt` tests the rule of each once over the whole list. `tools/table.py`
+-- writes this file. Assumes nothing.
+use Prim.Native.Nat.{ℕ, zero, suc}
+use mathlib.Core.List.{List, [], _∷_}
+use types.Run.{OneOf}
+
+abbrev pub powers : List ℕ
+powers =
+%s ∷ []
+
+abbrev pub firsts : List ℕ
+firsts =
+%s ∷ []
+
+-- i is none of the k first numbers: what the code knows in the `_` of a `match` with the arms 0, 1, .. k - 1
+abbrev pub None : ℕ → ℕ → Type 0
+None zero i = Unit {0}
+None (suc k) i = None k i × (OneOf (k ∷ []) i → ⊥)
 """
 
 
-def name(k):
-    return "returns" if k == 1 else f"returns-{k}"
+def rows(items, width):
+    return " ∷\n".join("    " + " ∷ ".join(items[i : i + width]) for i in range(0, len(items), width))
+
+
+def arms(items):
+    return "".join(f"        {i} => {x},\n" for i, x in enumerate(items))
 
 
 def main():
     root = os.path.join(os.path.dirname(os.path.abspath(__file__)), "..", "crates", "table")
-    arms = "".join(f"        {i} => {literal(entry(i))},\n" for i in range(ENTRIES))
-    needs = "".join(
-        f"{name(i + 1)} : tie.Need-{name(i + 1)}\nunfolding entry P taylor fact\n{name(i + 1)} c = arm {i} tt (c .match .keys{i + 1})\n\n"
-        for i in range(ENTRIES)
-    )
-    end = name(ENTRIES + 1)
-    needs += f"{end} : tie.Need-{end}\n{end} c = last (c .before .args .i) (c .match .rest)\n"
-    listed = "\n".join("    " + name(k) for k in range(1, ENTRIES + 2))
-    for path, text in (("src/lib.rt", SOURCE % arms), ("proofs/entry_at/Proof.antt", PROOF % (needs, listed))):
+    for path, text in (
+        ("src/lib.rt", SOURCE % arms([literal(x) for x in POWERS])),
+        ("src/index.rt", INDEX % arms([str(x) for x in FIRSTS])),
+        ("specs/inner/Lists.antt", LISTS % (rows([f"0x{x:016x}" for x in POWERS], 6), rows([str(x) for x in FIRSTS], 20))),
+    ):
         path = os.path.join(root, path)
         os.makedirs(os.path.dirname(path), exist_ok=True)
         with open(path, "w", encoding="utf-8") as out:

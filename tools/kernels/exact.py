@@ -8,7 +8,7 @@
 Everything here is whole numbers; no float is ever computed with. A float is a pattern of bits, read by its
 fields (tools/floats.py). Three parts:
 
-1. The definition, from crates/kernels/specs/{Core,Kernels}.antt and, for fma and round, crates/soft/specs.
+1. The definition, from crates/table/specs, crates/kernels/specs and, for fma and round, crates/soft/specs.
    Every answer must have its bits (a NaN equals any NaN).
 2. Document 01's exact values P, E and L and its rules about them. L is worked out as one fraction. E is
    enclosed between two numbers of 256 digits after the point, every step cut the safe way; a distance that
@@ -34,11 +34,11 @@ N = 0xB17217F7D1CF79AB
 
 
 def scaled(m, e, w):
-    """m * 2 ^ e * w, cut to a whole number"""
+    """m * 2 ^ e * w, rounded down to a whole number"""
     return m * w << e if e >= 0 else m * w >> -e
 
 
-# ---- 1. the definition: Core.antt
+# ---- 1. the definition: table/specs
 def taylor(a, b):
     """P(a / b) as num, den"""
     num = 0
@@ -53,51 +53,105 @@ def entry(i):
 
 
 TABLE = [entry(i) for i in range(256)] + [2**63]
-UPS = {f: [2 ** (71 - 8 * j) // factorial(j) for j in range(1, n + 1)] for f, n in ((F32, 3), (F64, 5))}
-DOWNS = {f: [2**63 // j for j in range(1, n + 1)] for f, n in ((F32, 5), (F64, 7))}
-BIAS = 2**19 * N
+FIRST = [bisect_left(TABLE, (513 + k) << 53) for k in range(512)]  # the first entry at or above the interval's end
 
 
-def high(a, b):
-    return a * b // 2**64
+# ---- Power.antt: Z counts 2 ^ -44 of a step, N / 2 ^ 72; divisions and shifts are whole parts, downward, for either sign
+def hi(a, b):
+    """a b / 2 ^ 64 without the product of the lower halves"""
+    half = 2**32
+    return a // half * (b // half) + a // half * (b % half) // half + a % half * (b // half) // half
 
 
-def horner(cs, x):
-    p = 0
-    for c in reversed(cs):
-        p = c + high(x, p)
-    return p
+def coef(u, j):
+    return 2**u * N**j // (2 ** (72 * j) * factorial(j))
 
 
-def mantissa(f, i, s):
-    return TABLE[i] + TABLE[i] * high(s, horner(UPS[f], s)) // 2**71
+SINGLES = [coef(40, j) for j in range(3)]
+DOUBLES = [coef(64, j) for j in range(6)]
+
+
+def significand(f, i, s):
+    """digits of 2 ^ ((i + s / 2 ^ 44) / 256): 32 of a single, 63 of a double"""
+    e = s >> 12
+    if f is F32:
+        t, c = TABLE[i] >> 31, SINGLES
+        return t + (t * (e * (c[1] + (e * c[2] >> 32)) >> 32) >> 40)
+    x, c = s << 20, DOUBLES
+    h4 = c[4] + (e * c[5] >> 32)
+    h3 = c[3] + (e * h4 >> 32)
+    h2 = c[2] + (e * (h3 >> 8) >> 24)
+    h1 = c[1] + hi(x, h2)
+    return TABLE[i] + hi(TABLE[i], hi(x, h1))
+
+
+PLACES = {F32: 31, F64: 62}
+
+
+def power(f, z):
+    k, i, s = z >> 52, (z >> 44) % 256, z % 2**44
+    if k < 1 - f.bias:
+        return False, 0, 0
+    if k > f.bias:
+        return "inf", False
+    return f.nearest(False, significand(f, i, s) << max(k, 0), 1 << PLACES[f] + max(-k, 0))
+
+
+# ---- Logarithm.antt
+def moved(w, m):
+    return m << (w - m.bit_length())
+
+
+def steps(m, e):
+    """the entry i and J = 256 k + i, for m * 2 ^ e"""
+    i = FIRST[(moved(64, m) >> 54) - 512]
+    return i, 256 * (e + m.bit_length() - 1) + i
+
+
+def below64(i, m):
+    """-ln(1 - g) in units of 2 ^ -64"""
+    g = 2 * (2**63 - hi(moved(64, m), 2 * TABLE[256 - i]))
+    e = g >> 24
+    h6 = 2**33 // 6 + (e * (2**33 // 7) >> 40)
+    h5 = 2**33 // 5 + (e * h6 >> 40)
+    h4 = 2**33 // 4 + (e * h5 >> 40)
+    h3 = 2**64 // 3 + (e * h4 >> 9)
+    h2 = 2**63 + hi(g, h3)
+    return g + hi(g, hi(g, h2))
+
+
+def gap63(i, m):
+    return 2**63 - moved(24, m) * (TABLE[256 - i] >> 23)
+
+
+def unit(m, e):
+    return e <= 0 and m == 1 << -e
 
 
 def logarithm(f, m, e):
-    """negative and magnitude, in units of 2 ^ -72, for m * 2 ^ e"""
-    big = m << (63 - m.bit_length())
-    k = e + m.bit_length() - 1
-    i = bisect_left(TABLE, big)  # the first entry that is big or more
-    g = max(0, 2**64 - big * TABLE[256 - i] // 2**61)
-    low = g * horner(DOWNS[f], g) // 2**63
-    if k >= 0:
-        return False, max(0, (256 * k + i) * N - 256 * low)
-    return True, (-256 * k - i) * N + 256 * low
+    """in units of 2 ^ -56 (single) or 2 ^ -64 (double)"""
+    i, j = steps(m, e)
+    if f is F64:
+        return 0 if unit(m, e) else j * ((N + 128) >> 8) - below64(i, m)
+    n = moved(24, m) - 2**23
+    if e + m.bit_length() == 1 and n < 2**14:
+        return 2**33 * n + n**3 // 24576 - 2**9 * n * n
+    g = gap63(i, m)
+    e = g >> 24
+    w = 2**30 + (e * (2**31 // 3 + (e >> 10)) >> 39)
+    return j * (N >> 16) - (g + ((e * e >> 31) * w >> 15) >> 7)
+
+
+def step_log(f, m, e):
+    """in units of 2 ^ -22 (single) or 2 ^ -50 (double) of a step"""
+    i, j = steps(m, e)
+    if f is F64:
+        return 0 if unit(m, e) else (j << 50) - hi(below64(i, m), 2**122 // N)
+    e = gap63(i, m) >> 24
+    return (j << 22) - (2**95 // N * e + ((e * e >> 31) * (2**94 // N + (e * (2**88 // (3 * N)) >> 32)) >> 8) >> 40)
 
 
 # ---- Kernels.antt
-def from_power(f, neg, mag):
-    if mag >= 2**82:
-        return (False, 0, 0) if neg else ("inf", False)
-    j, s = divmod(BIAS - mag if neg else BIAS + mag, N)
-    k, i = divmod(j, 256)
-    if k + f.bias < 2049:
-        return False, 0, 0
-    if k > 2048 + f.bias:
-        return "inf", False
-    return f.nearest(False, mantissa(f, i, s) << k, 1 << 2110)
-
-
 def finite(v):
     return v != NAN and v[0] != "inf"
 
@@ -112,21 +166,29 @@ def powered(v):
 
 
 def exp_def(f, x):
-    return from_power(f, x[0], scaled(x[1], x[2], 2**72)) if finite(x) else NAN
+    if not finite(x):
+        return NAN
+    s, m, e = x
+    a = scaled(m, e, 2**103 // N << 13) if f is F32 else hi(scaled(m, e, 2**53), 2**127 // N)
+    return power(f, -a if s else a)
 
 
 def ln_def(f, x):
     if not positive(x):
         return NAN
-    neg, mag = logarithm(f, x[1], x[2])
-    return f.nearest(neg, mag, 2**72)
+    z = logarithm(f, x[1], x[2])
+    return f.nearest(z < 0, abs(z), 2**56 if f is F32 else 2**64)
 
 
 def pow_def(f, x, y):
     if not (positive(x) and powered(y)):
         return NAN
-    neg, mag = logarithm(f, x[1], x[2])
-    return from_power(f, neg != y[0], scaled(y[1], y[2], mag))
+    l = step_log(f, x[1], x[2])
+    s, n, d = y
+    if f is F32:
+        return power(f, 8 * scaled(-n if s else n, d, l << 19))
+    a = scaled(n, d - 6, abs(l))
+    return power(f, -a if (l < 0) != s else a)
 
 
 # ---- HalfAway.antt and Fma.antt

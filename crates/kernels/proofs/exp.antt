@@ -1,4 +1,3 @@
--- What the proofs show of exp's argument, and of a power from 2 ^ 82 on.
-mod Cut
-mod Argument
-mod Raised
+-- exp's argument in units of a step, and its answers by the fields of x's pattern.
+pub mod Turns
+pub mod Cases

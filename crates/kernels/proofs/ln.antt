@@ -1,3 +1,6 @@
--- What the proofs of `ln` share.
-pub mod Answer
-pub mod Nearest
+-- What the proofs of ln share.
+mod Double
+pub mod One
+mod Single
+mod Value
+mod Whole

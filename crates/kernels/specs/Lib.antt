@@ -1,4 +1,5 @@
 pub mod Calls
-pub mod Core
 pub mod Kernels
+pub mod Logarithm
+pub mod Power
 pub mod inner

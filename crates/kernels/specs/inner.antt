@@ -1,3 +1,4 @@
 -- What private functions promise one another: no reader of a public contract needs these.
-pub mod Exp
-pub mod Ln
+pub mod Logs
+pub mod Power
+pub mod Single

@@ -1,102 +1,42 @@
-// exp for f32 and f64, and the power of e for a fixed-point number of two words, each equal to its definition
-// (specs/Kernels.antt).
+// exp for f32 and f64, each equal to its definition (specs/Kernels.antt).
 ghost use mathlib.Core.Path.{_≡_};
-ghost use Prim.Native.Nat.{_*_, _/_, _^_, _≤_, _<_};
+ghost use Prim.Native.Nat.{_+_, _-_, _*_, _^_, _≤_, _<_};
 ghost use lib.Ieee.{binary32, binary64};
-ghost use Rattle.soft.specs.Value.{valueOf};
-ghost use Rattle.kernels.specs.Kernels.{expDef, fromPower};
-ghost use Rattle.kernels.specs.inner.Exp.{Holds};
-use crate::exp::power::Words;
-use crate::exp::power::power_f32;
-use crate::exp::power::power_f64;
-use soft::units::is_finite;
-use soft::units::measure;
-use soft::wide::Wide;
+ghost use Rattle.kernels.specs.Kernels.{turns, expDef};
+use crate::high::hi;
+use crate::power::power_f32;
+use crate::power::power_f64;
+use crate::whole::signed;
 
-mod power;
-
-// The whole part of digits * 2^places / 2^1002.
-fn fixed(digits: u64, places: u64) -> Words
-    requires { ⌜ (digits < 2 ^ 53) × (places ≤ 1031) ⌝ }
-    ensures { λ r. ⌜ Holds 50 (digits * 2 ^ places / 2 ^ 1002) r ⌝ }
+// |x| in units of 2^-44 of a step, by the digits below the leading one and the exponent's field.
+fn turns_f32(t: u64, field: u64) -> u64
+    requires { ⌜ (t < 2 ^ 23) × (74 ≤ field) × (field ≤ 133) ⌝ }
+    ensures { λ r. ⌜ (r ≡ turns binary32 ((2 ^ 23 + t) * 2 ^ (field - 1)) (2 ^ 149)) × (r < 2 ^ 63) ⌝ }
 {
-    if places >= 1002 {
-        let p = 1u64 << (places - 1002);
-        let a = digits % 0x1_0000_0000 * p;
-        let b = digits / 0x1_0000_0000 * p;
-        let top = b + a / 0x1_0000_0000;
-        return Words {
-            high: top,
-            low: a % 0x1_0000_0000,
-        };
-    }
-    if places >= 939 {
-        let q = digits >> (1002 - places);
-        return Words {
-            high: q / 0x1_0000_0000,
-            low: q % 0x1_0000_0000,
-        };
-    }
-    Words { high: 0, low: 0 }
+    let p = (0x80_0000 + t) * 0xb8_aa3b_295c;
+    p >> (137 - field)
 }
 
-pub fn exp_f64(x: f64) -> f64
-    ensures { λ r. ⌜ r ≡ expDef binary64 x ⌝ }
-{
-    if !is_finite(x) {
-        return 0.0 / 0.0;
-    }
-    let u = measure(x);
-    let negative = u.negative;
-    let places = u.places;
-    if places > 1031 {
-        if negative {
-            return 0.0;
-        }
-        return 1.0 / 0.0;
-    }
-    let w = fixed(u.digits, places);
-    power_f64(negative, w.high, w.low)
-}
-
+// The exponents from 2^-53 to 2^6 take one test. Below them exp is 1, above them it is the end of the range.
 pub fn exp_f32(x: f32) -> f32
     ensures { λ r. ⌜ r ≡ expDef binary32 x ⌝ }
 {
-    let a = std::num::f32_to_f64_with_nan(x);
-    if !is_finite(a) {
+    if x != x {
         return 0.0 / 0.0;
     }
-    let v = measure(a);
-    let negative = v.negative;
-    let shift = v.places;
-    if shift > 1031 {
-        if negative {
-            return 0.0;
-        }
-        return 1.0 / 0.0;
+    let b = f32::to_bits(x) as u64;
+    let negative = 0x8000_0000 <= b;
+    let field = b % 0x8000_0000 / 0x80_0000;
+    let place = std::num::wrapping_sub_u64(field, 74);
+    if place < 60 {
+        let a = turns_f32(b % 0x80_0000, field);
+        return power_f32(signed(negative, a));
     }
-    let w = fixed(v.digits, shift);
-    power_f32(negative, w.high, w.low)
-}
-
-// w in words of 50 and 32 digits.
-fn words(w: Wide) -> Words
-    requires { ⌜ valueOf w < 2 ^ 82 ⌝ }
-    ensures { λ r. ⌜ Holds 50 (valueOf w) r ⌝ }
-{
-    let low = w.low & 0xffff_ffff;
-    let v = soft::shifts::shr(w, 32);
-    Words { high: v.low, low }
-}
-
-// E(±w / 2^72): +0 or an infinity from 2^82 on.
-pub(crate) fn raised_f64(negative: bool, w: Wide) -> f64
-    ensures { λ r. ⌜ r ≡ fromPower binary64 negative (valueOf w) ⌝ }
-{
-    let high = w.high;
-    if high < 0x4_0000 {
-        let p = words(w);
-        return power_f64(negative, p.high, p.low);
+    if field < 74 {
+        return 1.0;
+    }
+    if field == 255 {
+        return 0.0 / 0.0;
     }
     if negative {
         return 0.0;
@@ -104,13 +44,34 @@ pub(crate) fn raised_f64(negative: bool, w: Wide) -> f64
     1.0 / 0.0
 }
 
-pub(crate) fn raised_f32(negative: bool, w: Wide) -> f32
-    ensures { λ r. ⌜ r ≡ fromPower binary32 negative (valueOf w) ⌝ }
+fn turns_f64(t: u64, field: u64) -> u64
+    requires { ⌜ (t < 2 ^ 52) × (970 ≤ field) × (field ≤ 1032) ⌝ }
+    ensures { λ r. ⌜ (r ≡ turns binary64 ((2 ^ 52 + t) * 2 ^ (field - 1)) (2 ^ 1074)) × (r < 2 ^ 63) ⌝ }
 {
-    let top = w.high;
-    if top < 0x4_0000 {
-        let p = words(w);
-        return power_f32(negative, p.high, p.low);
+    let m = (0x10_0000_0000_0000 + t) * 2048;
+    hi(m >> (1033 - field), 0xb8aa_3b29_5c17_f0bc)
+}
+
+// The same, to 2^9.
+pub fn exp_f64(x: f64) -> f64
+    ensures { λ r. ⌜ r ≡ expDef binary64 x ⌝ }
+{
+    if x != x {
+        return 0.0 / 0.0;
+    }
+    let b = f64::to_bits(x);
+    let negative = 0x8000_0000_0000_0000 <= b;
+    let field = b % 0x8000_0000_0000_0000 / 0x10_0000_0000_0000;
+    let place = std::num::wrapping_sub_u64(field, 970);
+    if place < 63 {
+        let a = turns_f64(b % 0x10_0000_0000_0000, field);
+        return power_f64(signed(negative, a));
+    }
+    if field < 970 {
+        return 1.0;
+    }
+    if field == 2047 {
+        return 0.0 / 0.0;
     }
     if negative {
         return 0.0;

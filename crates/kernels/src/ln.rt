@@ -1,118 +1,127 @@
 // The natural logarithm.
 ghost use mathlib.Core.Path.{_≡_};
-ghost use Prim.Native.Nat.{_+_, _*_, _^_, _≤_, _<_};
-ghost use lib.Ieee.{binary32, binary64};
-ghost use lib.IntN.{negsuc};
-ghost use Rattle.soft.specs.Value.{valueOf};
-ghost use Rattle.soft.specs.Pack.{packWideDef};
-ghost use Rattle.kernels.specs.Kernels.{lnDef};
-ghost use Rattle.kernels.specs.inner.Ln.{Led};
-use crate::logarithm::has_log;
-use crate::logarithm::log_f32;
-use crate::logarithm::log_f64;
-use soft::pack::Scaled;
-use soft::pack::pack_wide_f32;
-use soft::pack::pack_wide_f64;
-use soft::wide::Wide;
+ghost use mathlib.Core.Bool.{true, false};
+ghost use Prim.Native.Nat.{_+_, _*_, _/_, _^_, _≤_, _<_};
+ghost use lib.IntN.{pos, natAbs, _+ℤ_, _-ℤ_, _*ℤ_};
+ghost use lib.Signed.{mag, shrZ};
+ghost use lib.Ieee.{binary32, binary64, ofBits, ofInt, round};
+ghost use Rattle.table.specs.Exact.{N};
+ghost use Rattle.table.specs.Whole.{restZ};
+ghost use Rattle.kernels.specs.Kernels.{nearestOf, lnDef};
+use crate::log_double::has_log_f64;
+use crate::log_double::log_f64;
+use crate::log_single::has_log_f32;
+use crate::log_single::log_f32;
+use crate::whole::magnitude;
+use soft::shifts::digits64;
 
-// high * 2^32 + low in two words.
-fn joined(high: u64, low: u64) -> Wide
-    requires { ⌜ (high < 2 ^ 50) × (low < 2 ^ 32) ⌝ }
-    ensures { λ r. ⌜ valueOf r ≡ high * 2 ^ 32 + low ⌝ }
+// ---- single
+
+// The pattern, below the sign, of the nearest single to a / 2^56. The smallest a is a normal single's, and 39 of the 63 digits
+// are lost: no case is left to test.
+fn bits_f32(a: u64) -> u64
+    requires { ⌜ (0 < a) × (a < 2 ^ 63) ⌝ }
+    ensures { λ r. ⌜ (ofBits binary32 r ≡ round binary32 false a (2 ^ 56)) × (ofBits binary32 (2 ^ 31 + r) ≡ round binary32 true a (2 ^ 56)) × (r ≤ 134 * 2 ^ 23) ⌝ }
 {
-    let a = soft::wide::product(high, 0x1_0000_0000);
-    soft::wide::sum(a, Wide { high: 0, low })
+    let z = digits64(a);
+    let n = a << (63 - z);
+    let q = (n + 0x3f_ffff_ffff + (n >> 39) % 2) >> 39;
+    (z + 69) * 0x80_0000 + q
 }
 
-// The first 62 digits and a sticky bit after them, for a number whose first word alone has more than 30: the shift is then
-// from 1 to 20, and no case of it is left to test.
-fn lead(high: u64, low: u64) -> Scaled
-    requires { ⌜ (2 ^ 30 ≤ high) × (high < 2 ^ 50) × (low < 2 ^ 32) ⌝ }
-    ensures { λ r. ⌜ Led (high * 2 ^ 32 + low) r ⌝ }
+// The nearest single to s / 2^56.
+pub(crate) fn nearest_f32(s: i64) -> f32
+    requires { ⌜ natAbs s < 2 ^ 63 ⌝ }
+    ensures { λ r. ⌜ r ≡ nearestOf binary32 s 56 ⌝ }
 {
-    let z = soft::shifts::digits64(high);
-    let n = z - 30;
-    let m = 32 - n;
-    let a = high << m;
-    let b = low >> n;
-    let kept = a + b;
-    let unit = 1u64 << n;
-    let rest = low % unit;
-    let twice = kept * 2;
-    if rest == 0 {
-        return Scaled {
-            digits: twice,
-            places: n,
-        };
+    if s == 0 {
+        return 0.0;
     }
-    Scaled {
-        digits: twice + 1,
-        places: n,
-    }
-}
-
-// The nearest to ±(high * 2^32 + low) / 2^72. From 2^-10 on the 63 digits of `lead` lose always 10, and the answer is far from
-// both ends of the format: nothing is left to test but the sign.
-pub(crate) fn nearest_f64(negative: bool, high: u64, low: u64) -> f64
-    requires { ⌜ (high < 2 ^ 50) × (low < 2 ^ 32) ⌝ }
-    ensures { λ r. ⌜ r ≡ packWideDef binary64 negative (high * 2 ^ 32 + low) (negsuc 71) ⌝ }
-{
-    if high < 0x4000_0000 {
-        return pack_wide_f64(negative, joined(high, low), -72);
-    }
-    let c = lead(high, low);
-    let v = c.digits;
-    let n = c.places;
-    let odd = (v >> 10) % 2;
-    let q = (v + 0x1ff + odd) >> 10;
-    let b = (n + 1011) * 0x10_0000_0000_0000 + q;
-    if negative {
-        return f64::from_bits(0x8000_0000_0000_0000 + b);
-    }
-    f64::from_bits(b)
-}
-
-// The same for a single: 39 digits are lost.
-fn nearest_f32(negative: bool, high: u64, low: u64) -> f32
-    requires { ⌜ (high < 2 ^ 50) × (low < 2 ^ 32) ⌝ }
-    ensures { λ r. ⌜ r ≡ packWideDef binary32 negative (high * 2 ^ 32 + low) (negsuc 71) ⌝ }
-{
-    if high < 0x4000_0000 {
-        return pack_wide_f32(negative, joined(high, low), -72);
-    }
-    let c = lead(high, low);
-    let v = c.digits;
-    let n = c.places;
-    let odd = (v >> 39) % 2;
-    let q = (v + 0x3f_ffff_ffff + odd) >> 39;
-    let b = (n + 115) * 0x80_0000 + q;
-    if negative {
+    let b = bits_f32(magnitude(s));
+    if s < 0 {
         return f32::from_bits((0x8000_0000 + b) as u32);
     }
     f32::from_bits(b as u32)
 }
 
-pub fn ln_f64(x: f64) -> f64
-    ensures { λ r. ⌜ r ≡ lnDef binary64 x ⌝ }
-{
-    if !has_log(x) {
-        return 0.0 / 0.0;
-    }
-    // A curve after no time asks for this one.
-    if x == 1.0 {
-        return 0.0;
-    }
-    let l = log_f64(x);
-    nearest_f64(l.negative, l.high, l.low)
-}
-
 pub fn ln_f32(x: f32) -> f32
     ensures { λ r. ⌜ r ≡ lnDef binary32 x ⌝ }
 {
-    let a = std::num::f32_to_f64_with_nan(x);
-    if !has_log(a) {
+    if !has_log_f32(x) {
         return 0.0 / 0.0;
     }
-    let l = log_f32(a);
-    nearest_f32(l.negative, l.high, l.low)
+    nearest_f32(log_f32(x))
+}
+
+// ---- double
+
+// What the last 22 digits of N64 add to j N64 - l.
+fn rest_f64(j: i64, l: u64) -> i64
+    requires { ⌜ (mag j < 2 ^ 19) × (l < 2 ^ 57) ⌝ }
+    ensures { λ r. ⌜ (r ≡ j *ℤ pos 1167226 -ℤ pos l) × (mag r < 2 ^ 58) ⌝ }
+{
+    let a = j * 1167226;
+    let b = l as i64;
+    a - b
+}
+
+// v / 2^32, rounded down, and what is left.
+fn upper_f64(v: i64) -> i64
+    requires { ⌜ mag v < 2 ^ 58 ⌝ }
+    ensures { λ r. ⌜ (r ≡ shrZ v (2 ^ 32)) × (mag r < 2 ^ 26) ⌝ }
+{
+    v >> 32
+}
+
+fn lower_f64(v: i64) -> i64
+    ensures { λ r. ⌜ r ≡ pos (restZ v (2 ^ 32)) ⌝ }
+{
+    let h = v >> 32;
+    let p = h * 0x1_0000_0000;
+    v - p
+}
+
+// Nothing is lost.
+fn cast_f64(z: i64) -> f64
+    requires { ⌜ mag z < 2 ^ 52 ⌝ }
+    ensures { λ r. ⌜ r ≡ ofInt binary64 z ⌝ }
+{
+    z as f64
+}
+
+// (j C 2^22 + h 2^32 + r) / 2^64, rounded once: the three doubles are exact, and so is the first sum.
+fn sum_f64(j: i64, h: i64, r: i64) -> f64
+    requires { ⌜ (mag j < 2 ^ 19) × (mag h < 2 ^ 26) × (mag r < 2 ^ 32) ⌝ }
+    ensures { λ x. ⌜ x ≡ nearestOf binary64 ((j *ℤ pos 11908177887 +ℤ h *ℤ pos (2 ^ 10)) *ℤ pos (2 ^ 22) +ℤ r) 64 ⌝ }
+{
+    let a = cast_f64(j) * f64::from_bits(0x3f66_2e42_fef8_0000);
+    let b = cast_f64(h) * f64::from_bits(0x3df0_0000_0000_0000);
+    let c = cast_f64(r) * f64::from_bits(0x3bf0_0000_0000_0000);
+    a + b + c
+}
+
+// The nearest to (j N64 - l) / 2^64, with N64 = C 2^22 + c: v = j c - l is h 2^32 + r.
+pub(crate) fn nearest_f64(j: i64, l: u64) -> f64
+    requires { ⌜ (mag j < 2 ^ 19) × (l < 2 ^ 57) ⌝ }
+    ensures { λ r. ⌜ r ≡ nearestOf binary64 (j *ℤ pos ((N + 128) / 2 ^ 8) -ℤ pos l) 64 ⌝ }
+{
+    let v = rest_f64(j, l);
+    let h = upper_f64(v);
+    let r = lower_f64(v);
+    sum_f64(j, h, r)
+}
+
+pub fn ln_f64(x: f64) -> f64
+    ensures { λ r. ⌜ r ≡ lnDef binary64 x ⌝ }
+{
+    if !has_log_f64(x) {
+        return 0.0 / 0.0;
+    }
+    let b = f64::to_bits(x);
+    // x = 1
+    if b == 0x3ff0_0000_0000_0000 {
+        return 0.0;
+    }
+    let g = log_f64(x);
+    nearest_f64(g.j, g.l)
 }

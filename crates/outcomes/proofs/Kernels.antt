@@ -6,19 +6,16 @@ use Rattle.outcomes.proofs.Words.{words}
 use Rattle.soft.proofs.wide.product
 use Rattle.soft.proofs.shifts.shr
 use Rattle.soft.proofs.wide.sum
-use Rattle.soft.proofs.wide.difference
 use Rattle.soft.proofs.shifts.digits64
 use Rattle.soft.proofs.units.pattern
 use Rattle.soft.proofs.units.measure
 use Rattle.soft.proofs.units.is_finite
 use Rattle.soft.proofs.half_away.round_f64
 use Rattle.soft.proofs.half_away.round_f32
-use Rattle.soft.proofs.pack.pack_wide_f64
-use Rattle.soft.proofs.pack.pack_wide_f32
 use Rattle.soft.proofs.fma.fma_f64
 use Rattle.soft.proofs.fma.fma_f32
 use Rattle.table.proofs.entry_at
-use Rattle.table.proofs.starts.start_at
+use Rattle.table.proofs.index.index_at
 use Rattle.kernels.proofs.exp.exp_f64
 use Rattle.kernels.proofs.exp.exp_f32
 use Rattle.kernels.proofs.pow_ln.pow_ln_f64
@@ -38,9 +35,6 @@ one-shr = record { same = λ κs a o o′ c c′. words κs (c .0) (c′ .0) (c 
 -- soft::wide
 pub one-sum : One sum.Kinds.ps sum.Kinds.r sum.Reads.Post
 one-sum = record { same = λ κs a o o′ c c′. words κs (c .0) (c′ .0) (c .1 ∙ sym (c′ .1)) refl }
-
-pub one-difference : One difference.Kinds.ps difference.Kinds.r difference.Reads.Post
-one-difference = record { same = λ κs a o o′ c c′. words κs (c .0) (c′ .0) (c .1 ∙ sym (c′ .1)) refl }
 
 -- soft::shifts
 pub one-digits64 : One digits64.Kinds.ps digits64.Kinds.r digits64.Reads.Post
@@ -63,13 +57,6 @@ one-round-f64 = one (λ κs a o c. c ⨾ none ⨾ end)
 pub one-round-f32 : One round_f32.Kinds.ps round_f32.Kinds.r round_f32.Reads.Post
 one-round-f32 = one (λ κs a o c. c ⨾ none ⨾ end)
 
--- soft::pack
-pub one-pack-wide-f64 : One pack_wide_f64.Kinds.ps pack_wide_f64.Kinds.r pack_wide_f64.Reads.Post
-one-pack-wide-f64 = one (λ κs a o c. c ⨾ none ⨾ none ⨾ none ⨾ end)
-
-pub one-pack-wide-f32 : One pack_wide_f32.Kinds.ps pack_wide_f32.Kinds.r pack_wide_f32.Reads.Post
-one-pack-wide-f32 = one (λ κs a o c. c ⨾ none ⨾ none ⨾ none ⨾ end)
-
 -- soft::fma
 pub one-fma-f64 : One fma_f64.Kinds.ps fma_f64.Kinds.r fma_f64.Reads.Post
 one-fma-f64 = one (λ κs a o c. c ⨾ none ⨾ none ⨾ none ⨾ end)
@@ -81,9 +68,9 @@ one-fma-f32 = one (λ κs a o c. c ⨾ none ⨾ none ⨾ none ⨾ end)
 pub one-entry-at : One entry_at.Kinds.ps entry_at.Kinds.r entry_at.Reads.Post
 one-entry-at = one (λ κs a o c. c ⨾ none ⨾ end)
 
--- table::starts
-pub one-start-at : One start_at.Kinds.ps start_at.Kinds.r start_at.Reads.Post
-one-start-at = one (λ κs a o c. c ⨾ none ⨾ end)
+-- table::index
+pub one-index-at : One index_at.Kinds.ps index_at.Kinds.r index_at.Reads.Post
+one-index-at = one (λ κs a o c. c ⨾ none ⨾ end)
 
 -- kernels::exp
 pub one-exp-f64 : One exp_f64.Kinds.ps exp_f64.Kinds.r exp_f64.Reads.Post

@@ -18,7 +18,7 @@ use Rattle.columns.specs.LastReview.{targetLoss, targetGrad, targetSlots}
 use Rattle.laws.proofs.Values.Defaults.{single, boxed, first-state}
 use Rattle.laws.proofs.Values.Steps.{Ready, same-stability, same-branch, lapse-stability, lapse-branch, early-stability, same-difficulty}
 use Rattle.promises.specs.Twelve.{Weights, InRange, Value1, Value2, Value3, Value4, Value5, Value6, Value7, Value8, Value9, Value10, Value11, Value12, NextDay, InPrefix, InCard, InTarget, last, next, Twelve}
-use Rattle.laws.proofs.Distances.Values.{exp-zero}
+use Rattle.laws.proofs.Distances.Ends.{exp-zero}
 
 -- ---- the kernels
 value-1 : Value1

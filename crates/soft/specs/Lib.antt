@@ -1,6 +1,5 @@
 pub mod Fma
 pub mod HalfAway
-pub mod Pack
 pub mod Units
 pub mod Value
 pub mod inner

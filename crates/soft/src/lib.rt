@@ -3,7 +3,7 @@
 pub mod flags;
 pub mod fma;
 pub mod half_away;
-pub mod pack;
+mod pack;
 mod place;
 pub mod shifts;
 mod squeeze;

@@ -6,7 +6,7 @@ ghost use lib.Dec.{T};
 ghost use lib.IntN.{negsuc};
 ghost use lib.Signed.{leZ};
 ghost use Rattle.soft.specs.Value.{valueOf};
-ghost use Rattle.soft.specs.Pack.{packWideDef};
+ghost use Rattle.soft.specs.inner.Pack.{packWideDef};
 use crate::place::place_f32;
 use crate::place::place_f64;
 use crate::squeeze::squeeze;

@@ -48,7 +48,7 @@ pub fn sum(a: Wide, b: Wide) -> Wide
 }
 
 // a - b, or 2^128 more where b is the larger.
-pub fn difference(a: Wide, b: Wide) -> Wide
+pub(crate) fn difference(a: Wide, b: Wide) -> Wide
     ensures { λ r. ⌜ valueOf r ≡ (valueOf a + (2 ^ 128 - valueOf b)) % 2 ^ 128 ⌝ }
 {
     let x = a.low;

@@ -3,8 +3,6 @@ pub mod Poly
 pub mod Laws
 pub mod Two
 pub mod Cap
-pub mod Fix
-pub mod Fixed
 pub mod Terms
 pub mod Taylor
 pub mod Sums
@@ -14,3 +12,4 @@ pub mod Odds
 pub mod Below
 pub mod Frac
 pub mod Chain
+pub mod Floor

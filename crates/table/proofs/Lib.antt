@@ -2,4 +2,5 @@ pub mod Exact
 -- Laws of the table, for the proofs of the kernels.
 pub mod Every
 pub mod Entries
-mod Arms
+pub mod First
+mod Rules

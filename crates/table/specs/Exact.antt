@@ -4,7 +4,9 @@ use Prim.Native.Nat.{ℕ, zero, suc, _+_, _-_, _*_, _/_, _^_}
 use mathlib.Core.Bool.{Bool, true, false}
 use lib.Dec.{ltb}
 use lib.IntN.{ℤ, pos, negsuc, _+ℤ_}
-use lib.Ieee.{size}
+use lib.Signed.{shrZ}
+use lib.Ieee.{size, up, down}
+use Rattle.table.specs.Whole.{signed, restZ}
 
 -- N / 2 ^ 64 stands for ln 2
 abbrev pub N : ℕ
@@ -32,25 +34,15 @@ taylor (suc n) a b = taylor n a b * (suc n * b) + a ^ suc n
 unfoldable pub P : (a b : ℕ) → Frac
 P a b = record { num = taylor 23 a b; den = fact 23 * b ^ 23 }
 
--- ---- E(A) = 2 ^ k P(r), k the whole part, downward, of A * 2 ^ 64 / N, and r = A - k N / 2 ^ 64
--- for A = a / b the whole part is the quotient
-abbrev pub floorK : (a b : ℕ) → ℕ
-floorK a b = a * 2 ^ 64 / (b * N)
+-- ---- E(A) = 2 ^ k P(r), k the whole part, downward, of A * 2 ^ 64 / N, and r = A - k N / 2 ^ 64: a negative A gives a negative k
+-- 2 ^ k p
+abbrev pub scaled : ℤ → Frac → Frac
+scaled k p = record { num = up k * p .num; den = down k * p .den }
 
--- for A = -a / b it is -K, K the quotient rounded up
-abbrev pub ceilK : (a b : ℕ) → ℕ
-ceilK a b = (a * 2 ^ 64 + (b * N - 1)) / (b * N)
-
+-- A = ±a / b, so that A * 2 ^ 64 / N is z / (b N), z = ±a 2 ^ 64, and r is what the division leaves, over b 2 ^ 64
 unfoldable pub E : Bool → (a b : ℕ) → Frac
 unfolding P
-E false a b =
-    let k = floorK a b in
-    let p = P (a * 2 ^ 64 - k * (b * N)) (b * 2 ^ 64) in
-    record { num = 2 ^ k * p .num; den = p .den }
-E true a b =
-    let K = ceilK a b in
-    let p = P (K * (b * N) - a * 2 ^ 64) (b * 2 ^ 64) in
-    record { num = p .num; den = 2 ^ K * p .den }
+E s a b = let z = signed s (a * 2 ^ 64) in scaled (shrZ z (b * N)) (P (restZ z (b * N)) (b * 2 ^ 64))
 
 -- ---- L(x) = k N / 2 ^ 64 + 2 (the sum of z ^ (2j + 1) / (2j + 1), j = 0..23), for x = M * 2 ^ k, 1 ≤ M < 2, z = (M - 1) / (M + 1)
 unfoldable pub oddFact : ℕ → ℕ

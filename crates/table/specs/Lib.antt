@@ -1,3 +1,4 @@
 pub mod Entry
 pub mod Exact
-pub mod Start
+pub mod Whole
+pub mod inner

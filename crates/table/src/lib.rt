@@ -1,12 +1,22 @@
-// The fractional powers of two: 2^62 * 2^(i / 256), cut to a whole number; 2^63 from 256 on. `tools/table.py` writes this
-// file. A `match` of constants compiles to one load, where a constant array is built anew at each call.
-pub mod starts;
+// The fractional powers of two: 2^62 * 2^(i / 256), cut to a whole number; 2^63 from 256 on. `tools/table.py` writes the
+// arms. A `match` of constants compiles to one load, where a constant array is built anew at each call.
+pub mod index;
 
 ghost use mathlib.Core.Path.{_≡_};
+ghost use Prim.Native.Nat.{_^_};
+ghost use lib.ListN.{getD};
 ghost use Rattle.table.specs.Entry.{entry};
+ghost use Rattle.table.specs.inner.Lists.{powers, None};
 
-pub fn entry_at(i: u64) -> u64
-    ensures { λ r. ⌜ r ≡ entry i ⌝ }
+fn past(i: u64) -> u64
+    requires { ⌜ None 256 i ⌝ }
+    ensures { λ r. ⌜ r ≡ getD powers i (2 ^ 63) ⌝ }
+{
+    0x8000_0000_0000_0000
+}
+
+fn stored(i: u64) -> u64
+    ensures { λ r. ⌜ r ≡ getD powers i (2 ^ 63) ⌝ }
 {
     match i {
         0 => 0x4000_0000_0000_0000,
@@ -265,6 +275,12 @@ pub fn entry_at(i: u64) -> u64
         253 => 0x7ef6_e8da_4b54_4f99,
         254 => 0x7f4f_08ae_3dc7_c425,
         255 => 0x7fa7_65ac_a88f_6452,
-        _ => 0x8000_0000_0000_0000,
+        _ => past(i),
     }
+}
+
+pub fn entry_at(i: u64) -> u64
+    ensures { λ r. ⌜ r ≡ entry i ⌝ }
+{
+    stored(i)
 }

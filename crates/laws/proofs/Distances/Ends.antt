@@ -1,77 +1,52 @@
--- The power at its ends and at 0: +infinity and +0 from 89 or 710 on, 1 at 0, and at most 1 below 0. Assumes nothing.
-use mathlib.Core.Path.{_≡_, refl, sym, _∙_, subst}
-use mathlib.Core.Bool.{Bool, true, false, not}
-use mathlib.Core.Logic.{_⊎_, inl, inr}
+-- The power at its ends and at 0: +infinity and +0 from 128 or 1024 factors of 2 on, 1 at 0, at most 1 below 0, never a NaN; and exp's. Assumes nothing.
+use mathlib.Core.Path.{_≡_, refl, sym, ap, _∙_, subst}
+use mathlib.Core.Bool.{Bool, true, false, cond}
+use mathlib.Core.Logic.{inl, inr}
 use Prim.Native.Nat.{ℕ, zero, suc, _+_, _-_, _*_, _/_, _%_, _^_, _≤_, _<_}
-use native.Mathlib.Nat.{le-trans, le-of-eq, le-of-lt, lt-of-lt-of-le, mod-lt, mul-one, one-mul, mul-right-comm, mul-le-mul-right, le-div-iff-mul-le}
+use native.Mathlib.Nat.{le-trans, le-of-eq, le-of-lt, lt-of-lt-of-le, lt-of-le-of-lt, lt-of-mul-lt-mul-right, mul-one, one-mul, mul-right-comm, mul-le-mul-right, le-div-iff-mul-le}
 use native.Mathlib.Omega.{arith}
-use lib.Dec.{T, ltb, ltb→lt, nltb→le, lit<}
+use lib.Dec.{T, ltb, lit<, lit≤}
 use lib.IntN.{pos}
 use lib.Pow.{pow-pos, pow-mono, shl-lt}
-use lib.Ieee.{Float, inf, fin, Format, binary32, binary64, emax, up, down, round, le}
+use lib.Ieee.{Float, nan, inf, fin, Format, binary32, binary64, emax, up, down, round, le, isNan}
+use lib.Ieee.Bits.{is-false}
 use lib.Ieee.Fits.{down-pos}
 use lib.Ieee.Order.{round-mono}
 use Rattle.table.specs.Exact.{N, P, taylor, fact}
 use Rattle.table.specs.Entry.{entry}
-use Rattle.kernels.specs.Core.{ups, horner, mantissa, BIAS}
-use Rattle.kernels.specs.Kernels.{finish, fromPower, wholeOf, expDef}
-use Rattle.laws.specs.Distances.{floatOne, ended, edge, ExpEnds}
-use Rattle.kernels.proofs.Definitions.Cases.{at-low, at-high, at-mid, past, before}
-use Rattle.laws.proofs.Distances.power.Near.{mantissa-in}
-
-pub lt-or-ge : (a b : ℕ) → (a < b) ⊎ (b ≤ a)
-lt-or-ge a b = go (ltb a b) (ltb→lt a b) (nltb→le a b)
-  where
-    go : (t : Bool) → (T t → a < b) → (T (not t) → b ≤ a) → (a < b) ⊎ (b ≤ a)
-    go true l g = inl (l tt)
-    go false l g = inr (g tt)
+use Rattle.soft.proofs.Rounding.Pattern.{round-not-nan}
+use Rattle.kernels.specs.Power.{hi, coef, double4, double3, double2, double1, single1, part, significand}
+use Rattle.kernels.specs.Kernels.{turns, expDef}
+use Rattle.kernels.proofs.Definitions.Hi.{hi-ge}
+use Rattle.kernels.proofs.Definitions.Natural.{lift, biased, whole, index, finishN, powerN, at-low, at-high, at-mid, lt-or-ge, power-is}
+use Rattle.laws.specs.Distances.{floatOne, ended, edge, ExpZero, ExpEnds, ExpRefuses}
+use Rattle.laws.proofs.Distances.power.Near.{M-high}
 
 -- ---- at 0
-pub power-zero : (f : Format) (s : Bool) → fromPower f s 0 ≡ floatOne
-unfolding fromPower finish mantissa horner ups entry P taylor fact round
+pub power-zero : (f : Format) (s : Bool) → powerN f s 0 ≡ floatOne
+unfolding powerN finishN significand part double1 double2 double3 double4 single1 hi coef entry P taylor fact round
 power-zero binary32 true = refl
 power-zero binary32 false = refl
 power-zero binary64 true = refl
 power-zero binary64 false = refl
 
--- ---- far from 0: the argument 89 or 710, and a little below it, since pow's is cut
+-- ---- far from 0
 abbrev pub least : Format → ℕ
-least f = edge f * 2 ^ 72 - 2 ^ 26
+least binary32 = 128 * 2 ^ 52
+least binary64 = 1024 * 2 ^ 52
 
-high-enough : (f : Format) (mag : ℕ) → least f ≤ mag → 2048 + emax f < (BIAS + mag) / N / 256
-high-enough binary32 mag h = omega arith
-high-enough binary64 mag h = omega arith
+high-enough : (f : Format) (z : ℕ) → least f ≤ z → 2048 + emax f < whole (2 ^ 63 + z)
+high-enough binary32 z h = omega arith
+high-enough binary64 z h = omega arith
 
-low-enough : (f : Format) (mag : ℕ) → least f ≤ mag → (BIAS - mag) / N / 256 + emax f < 2049
-low-enough binary32 mag h = omega arith
-low-enough binary64 mag h = omega arith
+low-enough : (f : Format) (z : ℕ) → least f ≤ z → whole (2 ^ 63 - z) + emax f < 2049
+low-enough binary32 z h = omega arith
+low-enough binary64 z h = omega arith
 
-pub saturates-up : (f : Format) (mag : ℕ) → least f ≤ mag → fromPower f false mag ≡ inf false
-saturates-up f mag h = elim (lt-or-ge mag (2 ^ 82)) [
-  | inl l ↦ before f false mag l ∙ at-high f ((BIAS + mag) / N / 256) (mantissa f ((BIAS + mag) / N % 256) ((BIAS + mag) % N)) (high-enough f mag h)
-  | inr g ↦ past f false mag g
-]
-
-pub saturates-down : (f : Format) (mag : ℕ) → least f ≤ mag → fromPower f true mag ≡ fin false 0 (pos 0)
-saturates-down f mag h = elim (lt-or-ge mag (2 ^ 82)) [
-  | inl l ↦ before f true mag l ∙ at-low f ((BIAS - mag) / N / 256) (mantissa f ((BIAS - mag) / N % 256) ((BIAS - mag) % N)) (low-enough f mag h)
-  | inr g ↦ past f true mag g
-]
-
-pub power-ends : (f : Format) (s : Bool) (mag : ℕ) → least f ≤ mag → fromPower f s mag ≡ ended s
-power-ends f true mag h = saturates-down f mag h
-power-ends f false mag h = saturates-up f mag h
-
--- what the cut leaves of an argument
-under-edge : (E n d : ℕ) → 0 < d → E * d ≤ n → E * 2 ^ 72 - 2 ^ 26 ≤ n * 2 ^ 72 / d
-under-edge E n d p h = le-trans (less (E * 2 ^ 72)) (le-div-iff-mul-le p .1 (le-trans (le-of-eq (mul-right-comm E (2 ^ 72) d)) (mul-le-mul-right (2 ^ 72) h)))
-  where
-    less : (a : ℕ) → a - 2 ^ 26 ≤ a
-    less a = omega arith
-
-pub exp-ends : (f : Format) → ExpEnds f
-unfolding expDef
-exp-ends f s m e k h = power-ends f s (wholeOf m e (2 ^ 72)) (under-edge (edge f) (m * up e) (down e) (down-pos e) h)
+pub power-ends : (f : Format) (s : Bool) (z : ℕ) → least f ≤ z → powerN f s z ≡ ended s
+unfolding powerN
+power-ends f true z h = let Y = 2 ^ 63 - z in at-low f (whole Y) (significand f (index Y) (Y % 2 ^ 44) * lift f) (low-enough f z h)
+power-ends f false z h = let Y = 2 ^ 63 + z in at-high f (whole Y) (significand f (index Y) (Y % 2 ^ 44) * lift f) (high-enough f z h)
 
 -- ---- below 0
 round-one : (f : Format) → round f false 1 1 ≡ floatOne
@@ -92,7 +67,7 @@ under-one f K M a b =
     reach : (K : ℕ) → K ≤ 2047 → 63 + K ≤ 2110
     reach K h = omega arith
 
-finish-under : (f : Format) (K M : ℕ) → M < 2 ^ 63 → K ≤ 2047 → T (le (finish f K M) floatOne)
+finish-under : (f : Format) (K M : ℕ) → M < 2 ^ 63 → K ≤ 2047 → T (le (finishN f K M) floatOne)
 finish-under f K M a b = elim (lt-or-ge (K + emax f) 2049) [
   | inl l ↦ subst (λ (x : Float). T (le x floatOne)) (sym (at-low f K M l)) zero-below
   | inr g ↦ subst (λ (x : Float). T (le x floatOne)) (sym (at-mid f K M g (wide K (emax f) b))) (under-one f K M a b)
@@ -101,18 +76,62 @@ finish-under f K M a b = elim (lt-or-ge (K + emax f) 2049) [
     wide : (K E : ℕ) → K ≤ 2047 → K ≤ 2048 + E
     wide K E h = omega arith
 
-pub under-power : (f : Format) (mag : ℕ) → T (le (fromPower f true mag) floatOne)
+pub one-below : T (le floatOne floatOne)
 unfolding le
-under-power f zero = subst (λ (x : Float). T (le x floatOne)) (sym (power-zero f true)) tt
-under-power f (suc n) = elim (lt-or-ge (suc n) (2 ^ 82)) [
-  | inl l ↦ subst (λ (x : Float). T (le x floatOne)) (sym (before f true (suc n) l))
-      (finish-under f (Y / N / 256) (mantissa f (Y / N % 256) (Y % N))
-      (mantissa-in f (Y / N % 256) (Y % N) (mod-lt (Y / N) (lit< tt)) (mod-lt Y (lit< tt)) .1) (small n))
-  | inr g ↦ subst (λ (x : Float). T (le x floatOne)) (sym (past f true (suc n) g)) zero-below
-]
-  where
-    Y : ℕ
-    Y = BIAS - suc n
+one-below = tt
 
-    small : (n : ℕ) → (BIAS - suc n) / N / 256 ≤ 2047
-    small n = omega arith
+pub under-power : (f : Format) (z : ℕ) → T (le (powerN f true z) floatOne)
+unfolding powerN
+under-power f zero = subst (λ (x : Float). T (le x floatOne)) (sym (power-zero f true)) one-below
+under-power f (suc n) =
+    let Y : ℕ = 2 ^ 63 - suc n in
+    finish-under f (whole Y) (significand f (index Y) (Y % 2 ^ 44) * lift f) (M-high f Y) (omega arith)
+
+-- ---- no NaN
+pub either : (b : Bool) (x y : Float) → isNan x ≡ false → isNan y ≡ false → isNan (cond b x y) ≡ false
+either true x y h g = h
+either false x y h g = g
+
+finish-number : (f : Format) (K M : ℕ) → isNan (finishN f K M) ≡ false
+unfolding finishN isNan
+finish-number f K M =
+    either (ltb (K + emax f) 2049) (fin false 0 (pos 0)) (cond (ltb (2048 + emax f) K) (inf false) (round f false (M * 2 ^ K) (2 ^ 2110))) refl
+    (either (ltb (2048 + emax f) K) (inf false) (round f false (M * 2 ^ K) (2 ^ 2110)) refl
+    (is-false (isNan (round f false (M * 2 ^ K) (2 ^ 2110))) (round-not-nan f false (M * 2 ^ K) (2 ^ 2110))))
+
+pub power-number : (f : Format) (neg : Bool) (z : ℕ) → isNan (powerN f neg z) ≡ false
+unfolding powerN
+power-number f neg z = let Y = biased neg z in finish-number f (whole Y) (significand f (index Y) (Y % 2 ^ 44) * lift f)
+
+-- ---- exp
+turns-zero : (f : Format) → turns f 0 1 ≡ 0
+unfolding turns hi
+turns-zero binary32 = refl
+turns-zero binary64 = refl
+
+pub exp-zero : (f : Format) → ExpZero f
+unfolding expDef
+exp-zero f s = power-is f s (turns f 0 1) ∙ ap (powerN f s) (turns-zero f) ∙ power-zero f s
+
+pub exp-refuses : (f : Format) → ExpRefuses f
+unfolding expDef isNan
+exp-refuses f nan = refl
+exp-refuses f (inf s) = refl
+exp-refuses f (fin s m e) = ap isNan (power-is f s (turns f (m * up e) (down e))) ∙ power-number f s (turns f (m * up e) (down e))
+
+quotient : (r s b k : ℕ) → zero < b → r * b ≤ s → r * k ≤ s * k / b
+quotient r s b k z h = le-div-iff-mul-le z .1 (le-trans (le-of-eq (mul-right-comm r k b)) (mul-le-mul-right k h))
+
+past-three : (h g v k u w : ℕ) → v * k < (h + 3) * w → u ≤ v → (g + 3) * w ≤ u * k → g ≤ h
+past-three h g v k u w l m c = omega (arith, lt-of-mul-lt-mul-right w (lt-of-le-of-lt (le-trans c (mul-le-mul-right k m)) l))
+
+turns-far : (f : Format) (s b : ℕ) → zero < b → edge f * b ≤ s → least f ≤ turns f s b
+unfolding turns
+turns-far binary32 s b z h = le-trans (lit≤ tt) (quotient 89 s b (2 ^ 103 / N * 2 ^ 13) z h)
+turns-far binary64 s b z h =
+    past-three (hi (s * 2 ^ 53 / b) (2 ^ 127 / N)) (1024 * 2 ^ 52) (s * 2 ^ 53 / b) (2 ^ 127 / N) (710 * 2 ^ 53) (2 ^ 64) (hi-ge (s * 2 ^ 53 / b) (2 ^ 127 / N))
+    (quotient 710 s b (2 ^ 53) z h) (lit≤ tt)
+
+pub exp-ends : (f : Format) → ExpEnds f
+unfolding expDef
+exp-ends f s m e k h = power-is f s (turns f (m * up e) (down e)) ∙ power-ends f s (turns f (m * up e) (down e)) (turns-far f (m * up e) (down e) (down-pos e) h)

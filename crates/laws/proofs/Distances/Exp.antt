@@ -1,65 +1,128 @@
--- exp within document 01's distance of E: the argument is cut to a whole number of 2 ^ -72. Assumes nothing.
-use mathlib.Core.Path.{_≡_, sym, subst}
-use mathlib.Core.Bool.{Bool}
-use Prim.Native.Nat.{ℕ, _+_, _*_, _/_, _%_, _^_, _≤_, _<_}
-use native.Mathlib.Nat.{le-trans, le-of-eq, le-of-lt, mul-le-mul-right, le-of-mul-le-mul-right, div-mul-le-self, lt-div-mul-add, mod-lt}
+-- exp within 2 ^ -23 (single) and 2 ^ -50 (double) of E. Assumes nothing.
+use mathlib.Core.Path.{_≡_, refl, sym, ap, subst}
+use mathlib.Core.Bool.{Bool, true, false}
+use Prim.Native.Nat.{ℕ, zero, _+_, _-_, _*_, _/_, _^_, _≤_, _<_}
+use native.Mathlib.Nat.{le-trans, le-of-lt, mul-le-mul-left, mul-le-mul-right, le-of-mul-le-mul-right, lt-of-mul-lt-mul-right, mul-lt-mul-of-pos-left, div-mul-le-self, lt-div-mul-add}
 use native.Mathlib.Omega.{arith}
 use lib.Dec.{lit<, lit≤}
-use lib.Ieee.{Float, Format, binary32, binary64, up, down}
+use lib.Ieee.{Float, Format, binary32, binary64, emax, up, down}
 use lib.Ieee.Fits.{down-pos}
-use Rattle.table.specs.Exact.{N, E}
-use Rattle.kernels.specs.Core.{biased, mantissa}
-use Rattle.kernels.proofs.Definitions.Cases.{before}
-use Rattle.kernels.specs.Kernels.{fromPower, wholeOf, expDef}
-use Rattle.laws.specs.Distances.{Near, ExpNear, powerBits, reach}
-use Rattle.laws.proofs.Distances.Finish.{finish-near, exponent-in}
-use Rattle.laws.proofs.Distances.Cores.{PowerNear, MantissaIn, slack}
+use Rattle.table.specs.Exact.{Frac, N, E}
+use Rattle.kernels.specs.Power.{hi}
+use Rattle.kernels.specs.Kernels.{turns, expDef}
+use Rattle.kernels.proofs.Definitions.Hi.{hi-le, hi-ge}
+use Rattle.kernels.proofs.Definitions.Natural.{lift, biased, whole, powerN, power-is}
+use Rattle.laws.specs.Distances.{Near, powerBits, reach, ExpNear}
+use Rattle.laws.proofs.Distances.power.Table.{top}
+use Rattle.laws.proofs.Distances.power.Near.{grain, slack, most, M, M-low, M-high, power-near}
+use Rattle.laws.proofs.Distances.Finish.{bits, looser, finish-near}
 
-within : (f : Format) (mag : ℕ) → mag ≤ reach f * 2 ^ 72 + 2 ^ 26 → mag < 2 ^ 82
-within binary32 mag h = omega arith
-within binary64 mag h = omega arith
+-- ---- the argument: how far it may lie below, in units of 2 ^ -116
+abbrev off : Format → ℕ
+off binary32 = N + 86 * 2 ^ 13 * N
+off binary64 = 3 * N + N / 2 + 2 ^ 63
 
-pub power-near : (f : Format) → PowerNear f → MantissaIn f → (neg : Bool) (a b mag : ℕ) → 0 < b → mag ≤ reach f * 2 ^ 72 + 2 ^ 26
-    → a * 2 ^ 72 ≤ (mag + slack f) * b → mag * b ≤ a * 2 ^ 72 + slack f * b → Near (powerBits f) (fromPower f neg mag) (E neg a b)
-power-near f core mant neg a b mag z h lo hi =
-    let J = biased neg mag / N in
-    let s = biased neg mag % N in
-    let r = mant (J % 256) s (mod-lt J (lit< tt)) (mod-lt (biased neg mag) (lit< tt)) in
-    let e = exponent-in f neg mag h in
-    subst (λ (y : Float). Near (powerBits f) y (E neg a b)) (sym (before f neg mag (within f mag h)))
-    (finish-near f (J / 256) (mantissa f (J % 256) s) (E neg a b) (r .0) (r .1) (e .0) (e .1) (core neg a b mag z (within f mag h) lo hi))
+-- n for N, x for 2 ^ 116, p for 2 ^ 53, c for 2 ^ 127, w for 2 ^ 64
+double-hi : (s b v z k n p c w x : ℕ) → zero < w → z * w ≤ v * k → v * b ≤ s * p → k * n ≤ c → c * p ≡ x * w → z * (n * b) ≤ x * s
+double-hi s b v z k n p c w x y hz hv hk e =
+    le-of-mul-le-mul-right {k = w}
+    (omega (arith, mul-le-mul-right (n * b) hz, mul-le-mul-left (v * b) hk, mul-le-mul-right c hv, ap (λ (m : ℕ). s * m) e)) y
 
--- ---- the cut argument
-slack-pos : (f : Format) → 1 ≤ slack f
-slack-pos binary32 = lit≤ tt
-slack-pos binary64 = lit≤ tt
-
-cut-lo : (x b w s : ℕ) → 0 < b → 1 ≤ s → x * w ≤ (x * w / b + s) * b
-cut-lo x b w s z h = le-trans (le-of-lt (lt-div-mul-add {a = x * w} z)) (le-trans (le-of-eq (turn (x * w / b) b)) (mul-le-mul-right b (more (x * w / b) s h)))
+double-lo : (s b v z k n p c w x g h : ℕ) → zero < w → v * k ≤ (z + 3) * w → s * p ≤ (v + 1) * b → c ≤ (k + 1) * n → c * p ≡ x * w → v * n ≤ h * w → c ≤ g * w
+    → x * s ≤ z * (n * b) + (3 * n + h + g) * b
+double-lo s b v z k n p c w x g h y hz hv hk e hn hc = le-of-mul-le-mul-right {k = w} (two s b v z n p c w x g h hv e (omega (arith, hz, hk, hn, hc, mul-le-mul-left v hk, mul-le-mul-left n hz))) y
   where
-    turn : (q b : ℕ) → q * b + b ≡ (q + 1) * b
-    turn q b = omega arith
+    two : (s b v z n p c w x g h : ℕ) → s * p ≤ (v + 1) * b → c * p ≡ x * w → (v + 1) * c ≤ (z * n + (3 * n + h + g)) * w
+        → x * s * w ≤ (z * (n * b) + (3 * n + h + g) * b) * w
+    two s b v z n p c w x g h hv e l = omega (arith, mul-le-mul-right c hv, mul-le-mul-left b l, ap (λ (m : ℕ). s * m) e)
 
-    more : (q s : ℕ) → 1 ≤ s → q + 1 ≤ q + s
-    more q s h = omega arith
+single-hi : (s b z k n x : ℕ) → z * b ≤ s * k → k * n ≤ x → z * (n * b) ≤ x * s
+single-hi s b z k n x hz hk = omega (arith, mul-le-mul-right n hz, mul-le-mul-left s hk)
 
-cut-hi : (x b w s : ℕ) → x * w / b * b ≤ x * w + s * b
-cut-hi x b w s = le-trans (div-mul-le-self (x * w) b) (more (x * w) (s * b))
+single-lo : (s b z k n x c r : ℕ) → s * k ≤ (z + 1) * b → x ≤ (k + c) * n → s ≤ r * b → x * s ≤ z * (n * b) + (n + r * c * n) * b
+single-lo s b z k n x c r hz hk hs = omega (arith, mul-le-mul-right n hz, mul-le-mul-left s hk, mul-le-mul-right (c * n) hs)
+
+next : (n d : ℕ) → zero < d → n ≤ (n / d + 1) * d
+next n d z = omega (arith, lt-div-mul-add {a = n} z)
+
+below : (s b p r : ℕ) → zero < b → s ≤ r * b → s * p / b ≤ r * p
+below s b p r z l = le-of-mul-le-mul-right {k = b} (omega (arith, div-mul-le-self (s * p) b, mul-le-mul-right p l)) z
+
+turns-hi : (f : Format) (s b : ℕ) → turns f s b * (N * b) ≤ 2 ^ 116 * s
+unfolding turns
+turns-hi binary32 s b = single-hi s b (s * (2 ^ 103 / N * 2 ^ 13) / b) (2 ^ 103 / N * 2 ^ 13) N (2 ^ 116) (div-mul-le-self (s * (2 ^ 103 / N * 2 ^ 13)) b) (lit≤ tt)
+turns-hi binary64 s b =
+    double-hi s b (s * 2 ^ 53 / b) (hi (s * 2 ^ 53 / b) (2 ^ 127 / N)) (2 ^ 127 / N) N (2 ^ 53) (2 ^ 127) (2 ^ 64) (2 ^ 116) (lit< tt)
+    (hi-le (s * 2 ^ 53 / b) (2 ^ 127 / N)) (div-mul-le-self (s * 2 ^ 53) b) (lit≤ tt) refl
+
+turns-lo : (f : Format) (s b : ℕ) → zero < b → s ≤ reach f * b → 2 ^ 116 * s ≤ turns f s b * (N * b) + off f * b
+unfolding turns
+turns-lo binary32 s b z l =
+    single-lo s b (s * (2 ^ 103 / N * 2 ^ 13) / b) (2 ^ 103 / N * 2 ^ 13) N (2 ^ 116) (2 ^ 13) 86 (next (s * (2 ^ 103 / N * 2 ^ 13)) b z) (lit≤ tt) l
+turns-lo binary64 s b z l =
+    double-lo s b (s * 2 ^ 53 / b) (hi (s * 2 ^ 53 / b) (2 ^ 127 / N)) (2 ^ 127 / N) N (2 ^ 53) (2 ^ 127) (2 ^ 64) (2 ^ 116) (2 ^ 63) (N / 2) (lit< tt)
+    (le-of-lt (hi-ge (s * 2 ^ 53 / b) (2 ^ 127 / N))) (next (s * 2 ^ 53) b z) (lit≤ tt) refl
+    (le-trans (mul-le-mul-right N (below s b (2 ^ 53) 700 z l)) (lit≤ tt)) (lit≤ tt)
+
+-- ---- the exponent is in the normal range
+abbrev pub far : Format → ℕ
+far binary32 = 125
+far binary64 = 1011
+
+within : (f : Format) → (off f * grain f ≤ slack f * 2 ^ 116) × (reach f * 2 ^ 116 < far f * 2 ^ 52 * N)
+within binary32 = (lit≤ tt, lit< tt)
+within binary64 = (lit≤ tt, lit< tt)
+
+turns-lt : (f : Format) (s b : ℕ) → zero < b → s ≤ reach f * b → turns f s b < far f * 2 ^ 52
+turns-lt f s b z l = go (turns f s b) (far f * 2 ^ 52) N b s (reach f) (2 ^ 116) z (turns-hi f s b) l (within f .1)
   where
-    more : (a b : ℕ) → a ≤ a + b
-    more a b = omega arith
+    go : (t g n b s r x : ℕ) → zero < b → t * (n * b) ≤ x * s → s ≤ r * b → r * x < g * n → t < g
+    go t g n b s r x z h l m = lt-of-mul-lt-mul-right (n * b) (omega (arith, mul-le-mul-left x l, mul-lt-mul-of-pos-left {k = b} m z))
 
-cut-le : (x b w r : ℕ) → 0 < b → x ≤ r * b → x * w / b ≤ r * w + 2 ^ 26
-cut-le x b w r z h = le-trans (le-of-mul-le-mul-right {k = b} (le-trans (div-mul-le-self (x * w) b) (le-trans (mul-le-mul-right w h) (le-of-eq (turn r b w)))) z) (more (r * w))
-  where
-    turn : (r b w : ℕ) → r * b * w ≡ r * w * b
-    turn r b w = omega arith
+exponent-in : (f : Format) (neg : Bool) (z : ℕ) → z < far f * 2 ^ 52 → (2049 ≤ whole (biased neg z) + emax f) × (whole (biased neg z) < 2048 + emax f)
+exponent-in binary32 true z h = (omega arith, omega arith)
+exponent-in binary32 false z h = (omega arith, omega arith)
+exponent-in binary64 true z h = (omega arith, omega arith)
+exponent-in binary64 false z h = (omega arith, omega arith)
 
-    more : (a : ℕ) → a ≤ a + 2 ^ 26
-    more a = omega arith
+far-fits : (f : Format) (z : ℕ) → z < far f * 2 ^ 52 → z ≤ 2 ^ 62
+far-fits binary32 z h = omega arith
+far-fits binary64 z h = omega arith
 
-pub exp-near : (f : Format) → PowerNear f → MantissaIn f → ExpNear f
+-- ---- the significand at its full length
+top-is : (f : Format) → top f * 2 ^ 2048 * lift f ≡ 2 ^ 2110
+top-is binary32 = refl
+top-is binary64 = refl
+
+longer : (m e d g n t h l u : ℕ) → t * l ≡ u → m * e * d * g ≤ n * t * h → m * l * e * d * g ≤ n * u * h
+longer m e d g n t h l u q k = rw (← q) (omega (arith, mul-le-mul-right l k))
+
+longer' : (m e d g n t h l u : ℕ) → t * l ≡ u → n * t * h ≤ m * e * d * g → n * u * h ≤ m * l * e * d * g
+longer' m e d g n t h l u q k = rw (← q) (omega (arith, mul-le-mul-right l k))
+
+-- ---- the power of z, where ±a / b lies near
+pub power-is-near : (f : Format) (neg : Bool) (a b z o : ℕ) → zero < b → z < far f * 2 ^ 52 → 2 ^ 116 * a ≤ z * (N * b) + o * b
+    → z * (N * b) ≤ 2 ^ 116 * a + o * b → o * grain f ≤ slack f * 2 ^ 116 → Near (bits f) (powerN f neg z) (E neg a b)
+unfolding powerN
+power-is-near f neg a b z o zb zl lo hi fits =
+    let Y : ℕ = biased neg z in
+    let q : Frac = E neg a b in
+    let c = power-near f neg a b z (o * b) zb (far-fits f z zl) lo hi (omega (arith, fits, mul-le-mul-right b fits)) in
+    let e = exponent-in f neg z zl in
+    finish-near f (whole Y) (M f Y * lift f) (M-low f Y) (M-high f Y) (e .0) (e .1) q (
+      longer (M f Y) (2 ^ whole Y) (q .den) (grain f) (q .num) (top f * 2 ^ 2048) (grain f + most f) (lift f) (2 ^ 2110) (top-is f) (c .0),
+      longer' (M f Y) (2 ^ whole Y) (q .den) (grain f) (q .num) (top f * 2 ^ 2048) (grain f - most f) (lift f) (2 ^ 2110) (top-is f) (c .1),
+    )
+
+-- ---- exp
+turned : (f : Format) (s : Bool) (a b : ℕ) → zero < b → a ≤ reach f * b → Near (bits f) (powerN f s (turns f a b)) (E s a b)
+turned f s a b z l =
+    power-is-near f s a b (turns f a b) (off f) z (turns-lt f a b z l) (turns-lo f a b z l)
+    (omega (arith, turns-hi f a b)) (within f .0)
+
+pub exp-near : (f : Format) → ExpNear f
 unfolding expDef
-exp-near f core mant s m e k h =
-    power-near f core mant s (m * up e) (down e) (wholeOf m e (2 ^ 72)) (down-pos e) (cut-le (m * up e) (down e) (2 ^ 72) (reach f) (down-pos e) h)
-    (cut-lo (m * up e) (down e) (2 ^ 72) (slack f) (down-pos e) (slack-pos f)) (cut-hi (m * up e) (down e) (2 ^ 72) (slack f))
+exp-near f s m e k l =
+    let a : ℕ = m * up e in
+    let b : ℕ = down e in
+    subst (λ (y : Float). Near (powerBits f) y (E s a b)) (sym (power-is f s (turns f a b))) (looser f (powerN f s (turns f a b)) (E s a b) (turned f s a b (down-pos e) l))

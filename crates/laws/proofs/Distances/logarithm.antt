@@ -1,9 +1,21 @@
--- How near the logarithm core lies to L.
+-- How near the logarithms lie to L.
 pub mod Sum
-pub mod Horner
-pub mod Argument
+pub mod Ratio
 pub mod Table
+pub mod Low64
+pub mod Low63
+pub mod Low22
 pub mod Core
 pub mod Moved
 pub mod Near
+pub mod Pairs
+pub mod Double
+pub mod SingleSum
+pub mod Single
+pub mod First
+pub mod FirstNear
+pub mod FirstAt
+pub mod FirstSingle
+pub mod Joined
 pub mod Size
+pub mod Steps

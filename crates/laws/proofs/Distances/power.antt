@@ -1,6 +1,9 @@
--- How near the power core lies to document 01's E.
-pub mod Polynomial
-pub mod Mantissa
+-- How near the power lies to document 01's E.
 pub mod Steps
 pub mod Places
+pub mod Chain
+pub mod Polynomial
+pub mod Part
+pub mod Table
+pub mod Significand
 pub mod Near

@@ -11,8 +11,8 @@ use lib.Ieee.Fits.{up-pos, neg-fits, add-fits}
 use lib.Ieee.Positive.{positive, positive-finite}
 use lib.Ieee.Scale.{finite}
 use Rattle.table.specs.Exact.{P, taylor, fact}
-use Rattle.table.specs.Entry.{entry}
-use Rattle.kernels.specs.Core.{firstFrom, gap, lnBelow, horner, downs, logarithm}
+use Rattle.table.specs.Entry.{entry, firstFrom}
+use Rattle.kernels.specs.Logarithm.{gap63, low63, below24, logarithm}
 use Rattle.kernels.specs.Kernels.{powered, lnDef}
 use Rattle.kernels.specs.Calls.{exp32, ln32, pow32}
 use Rattle.domain.specs.Floats.{_+ᶠ_, _-ᶠ_, _*ᶠ_, _/ᶠ_, maxDef}
@@ -25,12 +25,12 @@ use Rattle.laws.proofs.Values.Signs.{plus-of, plus-div, both-negative, 
 use Rattle.laws.proofs.Values.Powers.{plus-exp, plus-pow, exp-size, exp-least}
 use Rattle.laws.proofs.Values.Logs.{in-reach}
 use Rattle.laws.proofs.Values.Zeros.{one-is, zero-times, zero-over, zero-plus-one}
-use Rattle.laws.proofs.Distances.Values.{pow-one, pow-at-most-one}
+use Rattle.laws.proofs.Distances.pow.Laws.{pow-one, pow-at-most-one}
 
 -- ---- the factor
 -- ln 0.9, about -0.105
 ln-nine : ln32 (decimal 9 10) ≡ fin true 14141253 (negsuc 26)
-unfolding lnDef logarithm firstFrom gap lnBelow horner downs entry P taylor fact decimal
+unfolding lnDef logarithm below24 firstFrom gap63 low63 entry P taylor fact decimal
 ln-nine = refl
 
 neg-least : (j : ℕ) (y : Float) → T (positive y) → Least j y → T (finite (neg y)) × Least j (neg y)

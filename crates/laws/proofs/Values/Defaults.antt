@@ -16,7 +16,7 @@ use Rattle.domain.specs.Weights.{_!_, LOW, HIGH, all, weightsRefusal, FSRS6_DEF
 use Rattle.forward.specs.Params.{initDifficulty, paramsDef}
 use Rattle.forward.specs.Step.{clampState, ratingNumber, isFirst, firstDef, stepDef}
 use Rattle.laws.proofs.Values.Sizes.{unit}
-use Rattle.laws.proofs.Distances.Values.{exp-zero}
+use Rattle.laws.proofs.Distances.Ends.{exp-zero}
 
 abbrev w : List Float
 w = FSRS6_DEFAULT_PARAMETERS

@@ -1,63 +1,33 @@
--- The fixed-point logarithm of a single from 2 ^ -14 to 2 ^ 16 is below 34 ln 2 in size, and an exponent of at most 16 in size is in pow's domain. Assumes nothing.
+-- The logarithm behind pow, of a single from 2 ^ -14 to 2 ^ 16, is below 34 ln 2 in size, and an exponent of at most 16 in size is in pow's domain. Assumes nothing.
 use mathlib.Core.Path.{_≡_, sym, subst}
 use mathlib.Core.Bool.{Bool, true, false, _&&_, _||_, cond}
-use mathlib.Core.List.{List, [], _∷_}
 use mathlib.Core.Logic.{inl, inr}
-use Prim.Native.Nat.{ℕ, suc, _+_, _-_, _*_, _/_, _^_, _≤_, _<_, zero-le}
-use native.Mathlib.Nat.{le-refl, le-trans, le-of-eq, le-of-lt, lt-of-le-of-lt, lt-of-lt-of-le, eq-or-lt-of-le, add-le-add, mul-one, mul-le-mul, mul-le-mul-right, le-div-iff-mul-le, div-mul-le-self, div-le-of-le-mul, zero-lt-suc}
+use Prim.Native.Nat.{ℕ, suc, _+_, _-_, _*_, _^_, _≤_, _<_}
+use native.Mathlib.Nat.{le-trans, le-of-eq, lt-of-le-of-lt, lt-of-lt-of-le, eq-or-lt-of-le, mul-one, mul-le-mul-right, zero-lt-suc}
 use native.Mathlib.Omega.{arith}
-use lib.Dec.{T, ltb, eqb, ltb→lt, lt→ltb, lit≤}
-use lib.IntN.{ℤ, pos, negsuc, _+ℤ_}
-use lib.Pow.{pow-pos, pow-add}
+use lib.Dec.{T, ltb, eqb, ltb→lt, lt→ltb}
+use lib.IntN.{ℤ, pos, negsuc, natAbs, _+ℤ_}
+use lib.Pow.{pow-add}
 use lib.Ieee.{Float, nan, inf, fin, binary32, size, up, down, fits, le}
 use lib.Ieee.Digits.{size-lt, size-reaches}
 use lib.Ieee.Fits.{and-i, eq→eqb, down-pos}
-use Rattle.table.specs.Exact.{N}
-use Rattle.table.specs.Entry.{entry}
-use Rattle.kernels.specs.Core.{downs, horner, index, gap, lnBelow, fixedLog, moved, logarithm}
+use Rattle.kernels.specs.Logarithm.{binade, stepLog}
 use Rattle.kernels.specs.Kernels.{powered}
-use Rattle.kernels.proofs.Definitions.First.{index-found}
-use Rattle.kernels.proofs.Definitions.Range.{horner-up}
+use Rattle.kernels.proofs.Definitions.Sizes.{step-most}
 use Rattle.soft.proofs.Rounding.Pattern.{pow-lt-back, pow-le-back}
-use Rattle.soft.proofs.Rounding.Place.{normalised-lt}
-use Rattle.columns.proofs.scores.Settled.{digits-below}
 use Rattle.laws.proofs.Values.Sizes.{Size}
 use Rattle.laws.proofs.Values.Operations.{Least}
 
--- ---- the series below an entry
-most : horner (downs binary32) (2 ^ 64) ≤ 2 ^ 66
-unfolding horner downs
-most = lit≤ tt
-
-below-le : (g : ℕ) → g ≤ 2 ^ 64 → lnBelow binary32 g ≤ 2 ^ 67
-unfolding lnBelow
-below-le g h = div-le-of-le-mul (2 ^ 63) (mul-le-mul h (le-trans (horner-up (downs binary32) h) most))
-
-gap-le : (i M : ℕ) → gap i M ≤ 2 ^ 64
-unfolding gap
-gap-le i M = less (2 ^ 64) (M * entry (256 - i) / 2 ^ 61)
-  where
-    less : (a b : ℕ) → a - b ≤ a
-    less a b = omega arith
-
 -- ---- the exponent of the leading digit
-abbrev Near : ℤ → Type 0
-Near (pos k) = k ≤ 16
-Near (negsuc k) = k < 14
-
-mag-lt : (k : ℤ) (i l : ℕ) → i ≤ 256 → l ≤ 2 ^ 67 → Near k → fixedLog k i l .mag < 34 * 256 * N
-mag-lt (pos k) i l a b h = omega arith
-mag-lt (negsuc k) i l a b h = omega arith
-
-split : (b a : ℕ) (t : Bool) → (T t → b < suc a) → b ≤ 16 + suc a → suc a ≤ b + 14 → Near (cond t (negsuc (suc a - suc b)) (pos (b - suc a)))
+split : (b a : ℕ) (t : Bool) → (T t → b < suc a) → b ≤ 16 + suc a → suc a ≤ b + 14 → natAbs (cond t (negsuc (suc a - suc b)) (pos (b - suc a))) ≤ 16
 split b a true l p q = less b a (l tt) q
   where
-    less : (b a : ℕ) → b < suc a → suc a ≤ b + 14 → suc a - suc b < 14
+    less : (b a : ℕ) → b < suc a → suc a ≤ b + 14 → suc (suc a - suc b) ≤ 16
     less b a l q = omega arith
 split b a false l p q = omega arith
 
 -- b is the place of the leading digit: 2 ^ b ≤ m < 2 ^ (b + 1)
-near : (m : ℕ) (e : ℤ) (b : ℕ) → 2 ^ b ≤ m → m < 2 ^ (b + 1) → m * up e ≤ 2 ^ 16 * down e → down e ≤ m * up e * 2 ^ 14 → Near (e +ℤ pos b)
+near : (m : ℕ) (e : ℤ) (b : ℕ) → 2 ^ b ≤ m → m < 2 ^ (b + 1) → m * up e ≤ 2 ^ 16 * down e → down e ≤ m * up e * 2 ^ 14 → natAbs (e +ℤ pos b) ≤ 16
 near m (pos a) b lo hi u d =
     turn a b (pow-le-back (b + a) 16 (le-trans (le-of-eq (pow-add 2 b a)) (le-trans (mul-le-mul-right (2 ^ a) lo) (le-trans u (le-of-eq (mul-one (2 ^ 16)))))))
   where
@@ -74,16 +44,11 @@ near m (negsuc a) b lo hi u d =
     less : (a b : ℕ) → suc a < b + 1 + 14 → suc a ≤ b + 14
     less a b h = omega arith
 
-pub log-size : (m : ℕ) (e : ℤ) → T (fits binary32 (fin false (suc m) e)) → Size 16 (fin false (suc m) e) → Least 14 (fin false (suc m) e) → logarithm binary32 (suc m) e .mag < 34 * 256 * N
-unfolding logarithm
-log-size m e k u d =
-    let M = moved (suc m) in
-    let i = index M in
+lead-most : (m : ℕ) (e : ℤ) → Size 16 (fin false (suc m) e) → Least 14 (fin false (suc m) e) → natAbs (binade (suc m) e) ≤ 16
+lead-most m e u d =
     let z = size (suc m) in
-    let w : M < 2 ^ 63 = normalised-lt (suc m) (lt-of-lt-of-le (digits-below binary32 false m e k) (lit≤ tt)) in
     let p : 0 < z = some m in
-    mag-lt (e +ℤ pos (z - 1)) i (lnBelow binary32 (gap i M)) (index-found M (le-of-lt w) .most) (below-le (gap i M) (gap-le i M))
-    (near (suc m) e (z - 1) (size-reaches (suc m) (z - 1) (less z p)) (subst (λ (x : ℕ). suc m < 2 ^ x) (back z p) (size-lt (suc m))) u d)
+    near (suc m) e (z - 1) (size-reaches (suc m) (z - 1) (less z p)) (subst (λ (x : ℕ). suc m < 2 ^ x) (back z p) (size-lt (suc m))) u d
   where
     less : (z : ℕ) → 0 < z → z - 1 < z
     less z h = omega arith
@@ -93,6 +58,13 @@ log-size m e k u d =
 
     some : (m : ℕ) → 0 < size (suc m)
     some m = pow-lt-back 0 (size (suc m)) (lt-of-le-of-lt (zero-lt-suc m) (size-lt (suc m)))
+
+pub log-size : (m : ℕ) (e : ℤ) → T (fits binary32 (fin false (suc m) e)) → Size 16 (fin false (suc m) e) → Least 14 (fin false (suc m) e)
+    → natAbs (stepLog binary32 (suc m) e) < 34 * 256 * 2 ^ 22
+log-size m e k u d = lt-of-le-of-lt (step-most (suc m) e) (few (natAbs (binade (suc m) e)) (lead-most m e u d))
+  where
+    few : (k : ℕ) → k ≤ 16 → (k * 256 + 256) * 2 ^ 22 + 2 ^ 32 < 34 * 256 * 2 ^ 22
+    few k h = omega arith
 
 -- ---- pow's domain
 or-l : (a b : Bool) → T a → T (a || b)

@@ -14,7 +14,8 @@ use Rattle.laws.proofs.Values.Operations.{Least}
 use Rattle.laws.proofs.Values.Powers.{pow-size}
 use Rattle.laws.proofs.Values.Logs.{log-size, in-reach}
 use Rattle.laws.proofs.Values.Zeros.{Zero, shape}
-use Rattle.laws.proofs.Distances.Values.{exp-zero, pow-zero}
+use Rattle.laws.proofs.Distances.Ends.{exp-zero}
+use Rattle.laws.proofs.Distances.pow.Laws.{pow-zero}
 
 -- ---- at a zero
 pub exp-at : (x : Float) → Zero x → exp32 x ≡ unit

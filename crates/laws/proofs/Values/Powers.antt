@@ -1,43 +1,43 @@
 -- The results of exp and pow in singles: never negative, at most 2 ^ k for an argument below k ln 2, and exp at least 1 from 0 on. Assumes nothing.
-use mathlib.Core.Path.{sym, _∙_, subst}
-use mathlib.Core.Bool.{Bool, true, false, not, cond}
-use mathlib.Core.Logic.{_⊎_, inl, inr}
-use Prim.Native.Nat.{ℕ, zero, suc, _+_, _*_, _/_, _%_, _^_, _≤_, _<_, zero-le}
-use native.Mathlib.Nat.{le-trans, le-of-eq, le-of-lt, lt-of-le-of-lt, mod-lt, mul-comm, mul-one, one-mul, mul-le-mul, mul-le-mul-right, div-le-of-le-mul, mul-right-comm}
+use mathlib.Core.Path.{_≡_, sym, ap, _∙_, subst}
+use mathlib.Core.Bool.{Bool, true, false, cond}
+use Prim.Native.Nat.{ℕ, zero, suc, _+_, _*_, _/_, _^_, _≤_, _<_, zero-le, suc-le-suc}
+use native.Mathlib.Nat.{le-trans, le-of-eq, le-of-lt, lt-of-le-of-lt, lt-of-mul-lt-mul-right, mul-comm, mul-one, one-mul, mul-pos, mul-le-mul, mul-le-mul-left, mul-le-mul-right, div-le-of-le-mul, div-lt-iff-lt-mul, mul-right-comm}
 use native.Mathlib.Omega.{arith}
-use lib.Dec.{T, leb, ltb, ltb→lt, nltb→le, lit<}
-use lib.IntN.{ℤ, pos}
+use lib.Dec.{T, ltb, ltb→lt, lit<, lit≤}
+use lib.IntN.{ℤ, pos, negsuc, natAbs, subℕ, _*ℤ_}
 use lib.Pow.{pow-pos, pow-add, pow-mono, shl-lt}
-use lib.Ieee.{Float, nan, inf, fin, Format, binary32, emax, up, down, round, unlike, le}
+use lib.Signed.{ltZ, shrZ}
+use lib.Ieee.{Float, nan, inf, fin, Format, binary32, emax, up, down, round, le}
+use lib.Ieee.Fits.{down-pos}
 use lib.Ieee.Order.{round-mono}
 use Rattle.table.specs.Exact.{N}
+use Rattle.table.specs.Whole.{signed, restZ}
 use Rattle.kernels.specs.Calls.{exp32, pow32}
-use Rattle.kernels.specs.Core.{BIAS, biased, mantissa, logarithm}
-use Rattle.kernels.specs.Kernels.{finish, fromPower, wholeOf, powered, expDef, powDef}
-use Rattle.kernels.proofs.Definitions.Cases.{at-low, at-high, at-mid, past, before, in-domain}
-use Rattle.kernels.proofs.Definitions.Range.{mantissa-range}
-use Rattle.laws.proofs.Distances.Ends.{lt-or-ge}
+use Rattle.kernels.specs.Power.{significand, places, finish, power}
+use Rattle.kernels.specs.Logarithm.{stepLog}
+use Rattle.kernels.specs.Kernels.{turns, raised, powered, powAt, expDef, powDef}
+use Rattle.kernels.proofs.Definitions.Cases.{in-domain}
+use Rattle.kernels.proofs.Definitions.Sizes.{natAbs-signed, natAbs-mul, shr-most, rest-lt, significand-low, significand-high}
 use Rattle.laws.proofs.Values.Sizes.{Size, plus, plus-cond, plus-round, unit, one-round, round-size}
 
 -- ---- never negative
-plus-finish : (f : Format) (K M : ℕ) → T (plus (finish f K M))
+plus-finish : (f : Format) (k : ℤ) (M : ℕ) → T (plus (finish f k M))
 unfolding finish
-plus-finish f K M =
-    plus-cond (ltb (K + emax f) 2049) (fin false 0 (pos 0)) (cond (ltb (2048 + emax f) K) (inf false) (round f false (M * 2 ^ K) (2 ^ 2110))) tt
-    (plus-cond (ltb (2048 + emax f) K) (inf false) (round f false (M * 2 ^ K) (2 ^ 2110)) tt (plus-round f (M * 2 ^ K) (2 ^ 2110)))
+plus-finish f k M =
+    let r = round f false (M * up k) (2 ^ places f * down k) in
+    plus-cond (ltZ k (subℕ 1 (emax f))) (fin false 0 (pos 0)) (cond (ltZ (pos (emax f)) k) (inf false) r) tt
+    (plus-cond (ltZ (pos (emax f)) k) (inf false) r tt (plus-round f (M * up k) (2 ^ places f * down k)))
 
-plus-power : (f : Format) (s : Bool) (mag : ℕ) → T (plus (fromPower f s mag))
-unfolding fromPower
-plus-power f s mag =
-    let J = biased s mag / N in
-    plus-cond (leb (2 ^ 82) mag) (cond s (fin false 0 (pos 0)) (inf false)) (finish f (J / 256) (mantissa f (J % 256) (biased s mag % N)))
-    (plus-cond s (fin false 0 (pos 0)) (inf false) tt tt) (plus-finish f (J / 256) (mantissa f (J % 256) (biased s mag % N)))
+plus-power : (f : Format) (Z : ℤ) → T (plus (power f Z))
+unfolding power
+plus-power f Z = plus-finish f (shrZ Z (2 ^ 52)) (significand f (restZ (shrZ Z (2 ^ 44)) 256) (restZ Z (2 ^ 44)))
 
 pub plus-exp : (x : Float) → T (plus (exp32 x))
 unfolding expDef
 plus-exp nan = tt
 plus-exp (inf s) = tt
-plus-exp (fin s m e) = plus-power binary32 s (wholeOf m e (2 ^ 72))
+plus-exp (fin s m e) = plus-power binary32 (signed s (turns binary32 (m * up e) (down e)))
 
 pub plus-pow : (x y : Float) → T (plus (pow32 x y))
 unfolding powDef
@@ -48,85 +48,114 @@ plus-pow (fin true (suc m) e) y = tt
 plus-pow (fin false (suc m) e) nan = plus-cond (powered nan) nan nan tt tt
 plus-pow (fin false (suc m) e) (inf t) = plus-cond (powered (inf t)) nan nan tt tt
 plus-pow (fin false (suc m) e) (fin t n d) =
-    let l = logarithm binary32 (suc m) e in
-    plus-cond (powered (fin t n d)) (fromPower binary32 (unlike (l .negative) t) (wholeOf n d (l .mag))) nan (plus-power binary32 (unlike (l .negative) t) (wholeOf n d (l .mag))) tt
+    let l = stepLog binary32 (suc m) e in
+    plus-cond (powered (fin t n d)) (powAt binary32 l (fin t n d)) nan (plus-power binary32 (raised binary32 t (n * up d) (down d) l)) tt
 
 -- ---- at most 2 ^ k
-wide : (K k : ℕ) → K < 2048 + k → k < 128 → K ≤ 2048 + 127
-wide K k h l = omega arith
+size-cond : (k : ℕ) (b : Bool) (x y : Float) → (T b → Size k x) → Size k y → Size k (cond b x y)
+size-cond k true x y h g = h tt
+size-cond k false x y h g = g
 
-short : (K k : ℕ) → K < 2048 + k → 63 + K ≤ k + 2110
-short K k h = omega arith
+not-over : (Z : ℤ) (k : ℕ) → k < 128 → natAbs Z < k * 2 ^ 52 → T (ltZ (pos 127) (shrZ Z (2 ^ 52))) → ⊥
+not-over (negsuc z) k l h t = t
+not-over (pos z) k l h t = less (z / 2 ^ 52) k l (div-lt-iff-lt-mul (pow-pos 52) .1 h) (ltb→lt 127 (z / 2 ^ 52) t)
+  where
+    less : (q k : ℕ) → k < 128 → q < k → 127 < q → ⊥
+    less q k l h t = omega arith
 
-finish-size : (K M k : ℕ) → M < 2 ^ 63 → K < 2048 + k → k < 128 → Size k (finish binary32 K M)
-finish-size K M k a h l = elim (lt-or-ge (K + 127) 2049) [
-  | inl b ↦ subst (Size k) (sym (at-low binary32 K M b)) zero-le
-  | inr g ↦ subst (Size k) (sym (at-mid binary32 K M g (wide K k h l))) (round-size false (M * 2 ^ K) (2 ^ 2110) k (pow-pos 2110) l (le-trans (le-of-lt (shl-lt 63 K a)) (le-trans (pow-mono (short K k h)) (le-of-eq (pow-add 2 k 2110)))))
-]
+under : (Z : ℤ) (M k : ℕ) → M < 2 ^ 32 → natAbs Z < k * 2 ^ 52 → M * up (shrZ Z (2 ^ 52)) ≤ 2 ^ k * (2 ^ 31 * down (shrZ Z (2 ^ 52)))
+under (negsuc z) M k a h =
+    le-trans (le-of-eq (mul-one M)) (le-trans (le-of-lt a)
+    (mul-le-mul {n₁ = 1} {m₁ = 2 ^ 31 * 2 ^ 1} (pow-pos k) (mul-le-mul-left (2 ^ 31) (pow-mono {i = 1} {j = suc (z / 2 ^ 52)} (suc-le-suc zero-le)))))
+under (pos z) M k a h =
+    let q = z / 2 ^ 52 in
+    le-trans (le-of-lt (shl-lt 32 q a)) (le-trans (pow-mono (short q k (div-lt-iff-lt-mul (pow-pos 52) .1 h))) (le-of-eq (pow-add 2 k 31)))
+  where
+    short : (q k : ℕ) → q < k → 32 + q ≤ k + 31
+    short q k h = omega arith
 
-small : (mag k : ℕ) → k < 128 → mag < k * 256 * N → mag < 2 ^ 82
-small mag k l h = omega arith
+power-size : (Z : ℤ) (k : ℕ) → k < 128 → natAbs Z < k * 2 ^ 52 → Size k (power binary32 Z)
+unfolding power finish
+power-size Z k l h =
+    let K = shrZ Z (2 ^ 52) in
+    let M = significand binary32 (restZ (shrZ Z (2 ^ 44)) 256) (restZ Z (2 ^ 44)) in
+    let r = round binary32 false (M * up K) (2 ^ 31 * down K) in
+    size-cond k (ltZ K (subℕ 1 127)) (fin false 0 (pos 0)) (cond (ltZ (pos 127) K) (inf false) r) (λ t. zero-le)
+    (size-cond k (ltZ (pos 127) K) (inf false) r (not-over Z k l h)
+    (round-size false (M * up K) (2 ^ 31 * down K) k (mul-pos (pow-pos 31) (down-pos K)) l
+    (under Z M k (significand-high (restZ (shrZ Z (2 ^ 44)) 256) (restZ Z (2 ^ 44)) (rest-lt (shrZ Z (2 ^ 44)) 256 (lit< tt)) (rest-lt Z (2 ^ 44) (lit< tt))) h)))
 
-under : (s : Bool) (mag k : ℕ) → 0 < k → mag < k * 256 * N → biased s mag / N / 256 < 2048 + k
-under true mag k z h = omega arith
-under false mag k z h = omega arith
-
-power-size : (s : Bool) (mag k : ℕ) → 0 < k → k < 128 → mag < k * 256 * N → Size k (fromPower binary32 s mag)
-power-size s mag k z l h =
-    let J = biased s mag / N in
-    let r = biased s mag % N in
-    subst (Size k) (sym (before binary32 s mag (small mag k l h)))
-    (finish-size (J / 256) (mantissa binary32 (J % 256) r) k (mantissa-range binary32 (J % 256) r (mod-lt J (lit< tt)) (le-of-lt (mod-lt (biased s mag) (lit< tt))) .1) (under s mag k z h) l)
-
-cut-most : (j m : ℕ) (e : ℤ) (w : ℕ) → m * up e ≤ 2 ^ j * down e → wholeOf m e w ≤ 2 ^ j * w
-cut-most j m e w h = div-le-of-le-mul (down e) (le-trans (mul-le-mul-right w h) (le-of-eq (mul-right-comm (2 ^ j) (down e) w ∙ mul-comm (2 ^ j * w) (down e))))
+turns-most : (j s b : ℕ) → s ≤ 2 ^ j * b → turns binary32 s b ≤ 2 ^ j * (2 ^ 103 / N * 2 ^ 13)
+unfolding turns
+turns-most j s b h = cut (2 ^ j) s b (2 ^ 103 / N * 2 ^ 13) h
+  where
+    cut : (p s b c : ℕ) → s ≤ p * b → s * c / b ≤ p * c
+    cut p s b c h = div-le-of-le-mul b (le-trans (mul-le-mul-right c h) (le-of-eq (mul-right-comm p b c ∙ mul-comm (p * c) b)))
 
 pub exp-size : (j k : ℕ) (x : Float) → 0 < k → k < 128 → 2 ^ j * 2 ^ 72 < k * 256 * N → Size j x → Size k (exp32 x)
 unfolding expDef
 exp-size j k nan z l b h = absurd h
 exp-size j k (inf s) z l b h = absurd h
-exp-size j k (fin s m e) z l b h = power-size s (wholeOf m e (2 ^ 72)) k z l (lt-of-le-of-lt (cut-most j m e (2 ^ 72) h) b)
+exp-size j k (fin s m e) z l b h =
+    let t = turns binary32 (m * up e) (down e) in
+    power-size (signed s t) k l
+    (lt-of-le-of-lt (le-of-eq (natAbs-signed s t)) (lt-of-le-of-lt (turns-most j (m * up e) (down e) h) (scaled (2 ^ j) k (2 ^ 103 / N * 2 ^ 13) N (lit≤ tt) b)))
+  where
+    scaled : (p k c n : ℕ) → c * n ≤ 2 ^ 116 → p * 2 ^ 72 < k * 256 * n → p * c < k * 2 ^ 52
+    scaled p k c n a h = lt-of-mul-lt-mul-right n (omega (arith, mul-le-mul-left p a))
 
 -- an exponent of at most 1 in size makes the logarithm no larger
-pub pow-size : (k m : ℕ) (e : ℤ) (y : Float) → 0 < k → k < 128 → logarithm binary32 (suc m) e .mag < k * 256 * N → T (powered y) → Size 0 y → Size k (pow32 (fin false (suc m) e) y)
+raised-most : (t : Bool) (x b : ℕ) (l : ℤ) → 0 < b → x ≤ b → natAbs (raised binary32 t x b l) ≤ natAbs l * 2 ^ 22
+unfolding raised
+raised-most t x b l z h =
+    let y = signed t x *ℤ l *ℤ pos (2 ^ 19) in
+    let p : natAbs y ≡ x * natAbs l * 2 ^ 19 =
+    natAbs-mul (signed t x *ℤ l) (pos (2 ^ 19)) ∙ ap (λ (n : ℕ). n * 2 ^ 19) (natAbs-mul (signed t x) l ∙ ap (λ (n : ℕ). n * natAbs l) (natAbs-signed t x)) in
+    le-trans (le-of-eq (natAbs-mul (shrZ y b) (pos 8)))
+    (eight (natAbs (shrZ y b)) (natAbs l) (shr-most y b (natAbs l * 2 ^ 19) z (le-trans (le-of-eq p) (times x b (natAbs l) h))))
+  where
+    eight : (q l : ℕ) → q ≤ l * 2 ^ 19 → q * 8 ≤ l * 2 ^ 22
+    eight q l h = omega arith
+
+    times : (x b l : ℕ) → x ≤ b → x * l * 2 ^ 19 ≤ b * (l * 2 ^ 19)
+    times x b l h = omega (arith, mul-le-mul-right l h)
+
+pub pow-size : (k m : ℕ) (e : ℤ) (y : Float) → 0 < k → k < 128 → natAbs (stepLog binary32 (suc m) e) < k * 256 * 2 ^ 22
+    → T (powered y) → Size 0 y → Size k (pow32 (fin false (suc m) e) y)
 pow-size k m e nan z l b p h = absurd h
 pow-size k m e (inf t) z l b p h = absurd h
 pow-size k m e (fin t n d) z l b p h =
-    let g = logarithm binary32 (suc m) e in
+    let g = stepLog binary32 (suc m) e in
     subst (Size k) (sym (in-domain binary32 m e (fin t n d) p))
-    (power-size (unlike (g .negative) t) (wholeOf n d (g .mag)) k z l (lt-of-le-of-lt (cut-most 0 n d (g .mag) h) (lt-of-le-of-lt (le-of-eq (one-mul (g .mag))) b)))
+    (power-size (raised binary32 t (n * up d) (down d) g) k l
+    (lt-of-le-of-lt (raised-most t (n * up d) (down d) g (down-pos d) (le-trans h (le-of-eq (one-mul (down d))))) (more (natAbs g) k b)))
+  where
+    more : (g k : ℕ) → g < k * 256 * 2 ^ 22 → g * 2 ^ 22 < k * 2 ^ 52
+    more g k h = omega arith
 
 -- ---- at least 1
-high : (mag : ℕ) → 2048 ≤ (BIAS + mag) / N / 256
-high mag = omega arith
+least-cond : (b : Bool) (x y : Float) → T (le unit x) → T (le unit y) → T (le unit (cond b x y))
+least-cond true x y h g = h
+least-cond false x y h g = g
 
 top : T (le unit (inf false))
 unfolding le
 top = tt
 
-finish-least : (K M : ℕ) → 2 ^ 62 ≤ M → 2048 ≤ K → T (le unit (finish binary32 K M))
-finish-least K M a h = elim (lt-or-ge (2048 + 127) K) [
-  | inl b ↦ subst (λ (x : Float). T (le unit x)) (sym (at-high binary32 K M b)) top
-  | inr g ↦
-      subst (λ (x : Float). T (le unit x)) (sym (at-mid binary32 K M (over K h) g))
-      (subst (λ (x : Float). T (le x (round binary32 false (M * 2 ^ K) (2 ^ 2110)))) one-round
-      (round-mono binary32 1 1 (M * 2 ^ K) (2 ^ 2110) (pow-pos 0) (pow-pos 2110) (le-trans (le-of-eq (one-mul (2 ^ 2110) ∙ pow-add 2 62 2048)) (le-trans (mul-le-mul a (pow-mono h)) (le-of-eq (sym (mul-one (M * 2 ^ K))))))))
-]
-  where
-    over : (K : ℕ) → 2048 ≤ K → 2049 ≤ K + 127
-    over K h = omega arith
+round-least : (M q : ℕ) → 2 ^ 31 ≤ M → T (le unit (round binary32 false (M * 2 ^ q) (2 ^ 31)))
+round-least M q h =
+    subst (λ (x : Float). T (le x (round binary32 false (M * 2 ^ q) (2 ^ 31)))) one-round
+    (round-mono binary32 1 1 (M * 2 ^ q) (2 ^ 31) (pow-pos 0) (pow-pos 31) (le-trans (mul-le-mul {m₁ = 1} h (pow-pos q)) (le-of-eq (sym (mul-one (M * 2 ^ q))))))
 
-power-least : (mag : ℕ) → T (le unit (fromPower binary32 false mag))
-unfolding le
-power-least mag = elim (lt-or-ge mag (2 ^ 82)) [
-  | inl l ↦
-      let J = (BIAS + mag) / N in
-      let r = (BIAS + mag) % N in
-      subst (λ (x : Float). T (le unit x)) (sym (before binary32 false mag l))
-      (finish-least (J / 256) (mantissa binary32 (J % 256) r) (mantissa-range binary32 (J % 256) r (mod-lt J (lit< tt)) (le-of-lt (mod-lt (BIAS + mag) (lit< tt))) .0) (high mag))
-  | inr g ↦ subst (λ (x : Float). T (le unit x)) (sym (past binary32 false mag g)) tt
-]
+power-least : (z : ℕ) → T (le unit (power binary32 (pos z)))
+unfolding power finish
+power-least z =
+    let q = z / 2 ^ 52 in
+    let i = restZ (shrZ (pos z) (2 ^ 44)) 256 in
+    let M = significand binary32 i (restZ (pos z) (2 ^ 44)) in
+    least-cond (ltb 127 q) (inf false) (round binary32 false (M * 2 ^ q) (2 ^ 31)) top
+    (round-least M q (significand-low i (restZ (pos z) (2 ^ 44)) (rest-lt (shrZ (pos z) (2 ^ 44)) 256 (lit< tt))))
 
 pub exp-least : (m : ℕ) (e : ℤ) → T (le unit (exp32 (fin false m e)))
 unfolding expDef
-exp-least m e = power-least (wholeOf m e (2 ^ 72))
+exp-least m e = power-least (turns binary32 (m * up e) (down e))

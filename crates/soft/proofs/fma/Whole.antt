@@ -20,7 +20,7 @@ use Rattle.soft.specs.declared.fma.Sum.{Sum}
 use Rattle.soft.specs.declared.units.Units.{Units}
 use Rattle.soft.specs.Fma.{fmaDef}
 use Rattle.soft.specs.inner.Fma.{Ready, Merged}
-use Rattle.soft.specs.Pack.{packWideDef}
+use Rattle.soft.specs.inner.Pack.{packWideDef}
 use Rattle.soft.specs.Units.{unitsDef}
 use Rattle.soft.proofs.units.Value.{holds}
 use Rattle.soft.proofs.fma.Exactly.{ready, sizeOf, signOf, exact-sum}

@@ -13,7 +13,7 @@ use lib.Ieee.{Format, binary32, binary64, low, up, down, round}
 use lib.Ieee.Fits.{down-pos}
 use lib.Ieee.Scale.{round-same}
 use Rattle.soft.proofs.Rounding.Tiny.{tiny}
-use Rattle.soft.specs.Pack.{packWideDef}
+use Rattle.soft.specs.inner.Pack.{packWideDef}
 use Rattle.soft.specs.inner.Pack.{squeezeDef}
 use Rattle.soft.proofs.squeeze.Digits.{squeezed}
 use Rattle.soft.proofs.pack.Exponent.{Counts}

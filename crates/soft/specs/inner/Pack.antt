@@ -1,10 +1,15 @@
--- What `squeeze` and `place` compute. Assumes nothing.
+-- A float put together: what `pack`, `squeeze` and `place` compute. Assumes nothing.
 use Prim.Native.Nat.{ℕ, _+_, _-_, _*_, _/_, _%_, _^_, min}
-use mathlib.Core.Bool.{not, cond}
+use mathlib.Core.Bool.{Bool, not, cond}
 use lib.Dec.{eqb}
-use lib.Ieee.{size}
+use lib.IntN.{ℤ}
+use lib.Ieee.{Float, Format, size, up, down, round}
 use lib.Ieee.Nearest.{closest}
 use Rattle.soft.specs.declared.pack.Scaled.{Scaled}
+
+-- the nearest to ± w * 2 ^ e, ties to even, for a w of any size
+unfoldable pub packWideDef : Format → Bool → ℕ → ℤ → Float
+packWideDef f s w e = round f s (w * up e) (down e)
 
 -- the first 62 digits of w, and a bit after them that says whether any other digit is 1
 unfoldable pub squeezeDef : ℕ → Scaled

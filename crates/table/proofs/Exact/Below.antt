@@ -1,73 +1,60 @@
--- P(l(g)) against 1 / (1 - g), for l(g) = g + g^2/2 + .. + g^n/n and 0 ≤ g ≤ 7/2560. Single results take five terms, double ones seven. Assumes nothing.
+-- P(l(g)) against 1 / (1 - g), for l(g) = g + g^2/2 + .. + g^7/7 and 0 ≤ g ≤ 12/2560. Every kernel's chain is measured by this polynomial. Assumes nothing.
 use mathlib.Core.Path.{_≡_}
 use mathlib.Core.List.{List, [], _∷_}
-use Prim.Native.Nat.{ℕ, suc, _+_, _*_, _^_, _≤_}
-use lib.Dec.{T, lit<}
-use lib.Ieee.{Format, binary32, binary64}
+use Prim.Native.Nat.{ℕ, _+_, _*_, _^_, _≤_}
+use lib.Dec.{T, lit<, lit≤}
 use Rattle.table.proofs.Exact.Poly.{h, add, axpy, mul, comp}
-use Rattle.table.proofs.Exact.Laws.{sub, fits, h-const, h-comp, fits-comp}
-use Rattle.table.proofs.Exact.Fix.{fix-test, fix-up, fix-down}
+use Rattle.table.proofs.Exact.Laws.{sub, fits, near, h-const, h-more, h-next, h-comp, fits-comp}
 use Rattle.table.proofs.Exact.Terms.{pcoef, f23}
 
--- n - 1, the degree of l(g) / g
-abbrev pub deg : Format → ℕ
-deg binary32 = 4
-deg binary64 = 6
+-- 420 is a common multiple of 1..7, and these are the coefficients of l(g) over it
+abbrev pub dL : ℕ
+dL = 420
 
--- a common multiple of 1..n, and the coefficients of l(g) / g over it
-abbrev pub dL : Format → ℕ
-dL binary32 = 60
-dL binary64 = 420
+unfoldable pub lcoef : List ℕ
+lcoef = 0 ∷ 420 ∷ 210 ∷ 140 ∷ 105 ∷ 84 ∷ 70 ∷ 60 ∷ []
 
-unfoldable pub tcoef : Format → List ℕ
-tcoef binary32 = 60 ∷ 30 ∷ 20 ∷ 15 ∷ 12 ∷ []
-tcoef binary64 = 420 ∷ 210 ∷ 140 ∷ 105 ∷ 84 ∷ 70 ∷ 60 ∷ []
+-- P(l(g)) (1 - g) is at most 1 / less below 1
+abbrev pub less : ℕ
+less = 7 * 2 ^ 62
 
-abbrev pub lcoef : Format → List ℕ
-lcoef f = 0 ∷ tcoef f
-
--- P(l(g)) (1 - g) is at most 1 / less f below 1
-abbrev pub less : Format → ℕ
-less binary32 = 25 * 2 ^ 49
-less binary64 = 2 ^ 71
-
-unfoldable pub uL : Format → ℕ
+unfoldable pub uL : ℕ
 unfolding f23
-uL f = f23 * dL f ^ 23
+uL = f23 * dL ^ 23
 
-pub pl : Format → List ℕ
-pl f = comp 23 pcoef (dL f) (lcoef f)
+pub pl : List ℕ
+pl = comp 23 pcoef dL lcoef
 
-passes : (f : Format) → T (fix-test (23 * suc (deg f)) (uL f ∷ []) 7 2560 (2 ^ 200) (less f) (uL f) (pl f))
-unfolding fix-test uL f23 pl pcoef tcoef comp axpy mul add sub h
-passes binary32 = tt
-passes binary64 = tt
+no-more : h 162 (sub pl (add (uL ∷ []) (0 ∷ pl))) 12 2560 * 2 ^ 200 ≤ uL * 2560 ^ 162
+unfolding uL f23 pl pcoef lcoef comp axpy mul add sub h
+no-more = lit≤ tt
 
-fits-l : (f : Format) → T (fits (suc (deg f)) (lcoef f))
-unfolding tcoef
-fits-l binary32 = tt
-fits-l binary64 = tt
+little-less : h 162 (sub (add (uL ∷ []) (0 ∷ pl)) pl) 12 2560 * less ≤ uL * 2560 ^ 162
+unfolding uL f23 pl pcoef lcoef comp axpy mul add sub h
+little-less = lit≤ tt
 
--- uL f * b ^ (23 n) times P(l(a / b))
-abbrev pub pL : Format → ℕ → ℕ → ℕ
-pL f a b = h 23 pcoef (h (suc (deg f)) (lcoef f) a b) (dL f * b ^ suc (deg f))
+fits-l : T (fits 7 lcoef)
+unfolding lcoef
+fits-l = tt
 
-pl-is : (f : Format) (a b : ℕ) → pL f a b ≡ h (23 * suc (deg f)) (pl f) a b
+-- uL * b ^ (23 n) times P(l(a / b))
+abbrev pub pL : ℕ → ℕ → ℕ
+pL a b = h 23 pcoef (h 7 lcoef a b) (dL * b ^ 7)
+
+pl-is : (a b : ℕ) → pL a b ≡ h 161 pl a b
 unfolding pl
-pl-is f a b = h-comp 23 (suc (deg f)) pcoef (dL f) (lcoef f) a b (fits-l f)
+pl-is a b = h-comp 23 7 pcoef dL lcoef a b fits-l
 
-fits-pl : (f : Format) → T (fits (23 * suc (deg f)) (pl f))
+fits-pl : T (fits 161 pl)
 unfolding pl
-fits-pl f = fits-comp 23 (suc (deg f)) pcoef (dL f) (lcoef f) (fits-l f)
+fits-pl = fits-comp 23 7 pcoef dL lcoef fits-l
 
-pub upper : (f : Format) (a b : ℕ) → a * 2560 ≤ 7 * b
-    → b * pL f a b * 2 ^ 200 ≤ (uL f * b ^ suc (23 * suc (deg f)) + a * pL f a b) * 2 ^ 200 + uL f * b ^ suc (23 * suc (deg f))
-upper f a b l =
-    rw (h-const (suc (23 * suc (deg f))) (uL f) a b, ← pl-is f a b) at
-    (fix-up (23 * suc (deg f)) (uL f ∷ []) 7 2560 (2 ^ 200) (less f) (uL f) (lit< tt) (pl f) (fits-pl f) (passes f) a b l)
+-- the sides in h, and in P
+sides : (a b : ℕ) → (h 162 pl a b ≡ b * pL a b) × (h 162 (add (uL ∷ []) (0 ∷ pl)) a b ≡ uL * b ^ 162 + a * pL a b)
+sides a b = (rw (h-more 161 pl a b fits-pl, pl-is a b), rw (h-next 161 (uL ∷ []) pl a b, h-const 162 uL a b, pl-is a b))
 
-pub lower : (f : Format) (a b : ℕ) → a * 2560 ≤ 7 * b
-    → (uL f * b ^ suc (23 * suc (deg f)) + a * pL f a b) * less f ≤ b * pL f a b * less f + uL f * b ^ suc (23 * suc (deg f))
-lower f a b l =
-    rw (h-const (suc (23 * suc (deg f))) (uL f) a b, ← pl-is f a b) at
-    (fix-down (23 * suc (deg f)) (uL f ∷ []) 7 2560 (2 ^ 200) (less f) (uL f) (lit< tt) (pl f) (fits-pl f) (passes f) a b l)
+pub upper : (a b : ℕ) → a * 2560 ≤ 12 * b → b * pL a b * 2 ^ 200 ≤ (uL * b ^ 162 + a * pL a b) * 2 ^ 200 + uL * b ^ 162
+upper a b l = rw (sides a b .0, sides a b .1) at (near 162 pl (add (uL ∷ []) (0 ∷ pl)) a b 12 2560 (2 ^ 200) uL l (lit< tt) no-more)
+
+pub lower : (a b : ℕ) → a * 2560 ≤ 12 * b → (uL * b ^ 162 + a * pL a b) * less ≤ b * pL a b * less + uL * b ^ 162
+lower a b l = rw (sides a b .0, sides a b .1) at (near 162 (add (uL ∷ []) (0 ∷ pl)) pl a b 12 2560 less uL l (lit< tt) little-less)

@@ -51,10 +51,7 @@ fits-cap (suc K) [] = tt
 fits-cap (suc K) (c ∷ p) = fits-cap K p
 
 third : (a b x : ℕ) → a * 3 ≤ b → a * x ≤ suc (x / 3) * b
-third a b x l = le-trans {m = a * (3 * suc (x / 3))} (mul-le-mul-left a (up3 x)) (omega (arith, mul-le-mul-right (suc (x / 3)) l))
-  where
-    up3 : (x : ℕ) → x ≤ 3 * suc (x / 3)
-    up3 x = omega arith
+third a b x l = le-trans {m = a * (3 * suc (x / 3))} (mul-le-mul-left a (omega arith)) (omega (arith, mul-le-mul-right (suc (x / 3)) l))
 
 h-up : (M : ℕ) (p : List ℕ) (a b : ℕ) → a * 3 ≤ b → T (fits M p) → a * h M p a b ≤ up p * b ^ suc M
 unfolding h up
@@ -76,66 +73,54 @@ h-cap M (suc K) (c ∷ p) a b l t =
     rw (add-suc M K, pow-succ' b (M + K), pow-add b M K, pow-succ' b K) (omega (arith, mul-le-mul-left a (h-cap M K p a b l (rw (add-suc M K) at t))))
 
 -- ---- compositions
-unfoldable pub comp-lo : ℕ → ℕ → List ℕ → ℕ → List ℕ → List ℕ
-comp-lo K zero [] U s = []
-comp-lo K zero (c ∷ p) U s = c ∷ []
-comp-lo K (suc n) [] U s = []
-comp-lo K (suc n) (c ∷ p) U s = cut K (add (c * U ^ suc n ∷ []) (mul s (comp-lo K n p U s)))
+-- the composition, each step cut by k
+unfoldable pub comp-by : (List ℕ → List ℕ) → ℕ → List ℕ → ℕ → List ℕ → List ℕ
+comp-by k zero [] U s = []
+comp-by k zero (c ∷ p) U s = c ∷ []
+comp-by k (suc n) [] U s = []
+comp-by k (suc n) (c ∷ p) U s = k (add (c * U ^ suc n ∷ []) (mul s (comp-by k n p U s)))
 
-unfoldable pub comp-up : ℕ → ℕ → List ℕ → ℕ → List ℕ → List ℕ
-comp-up K zero [] U s = []
-comp-up K zero (c ∷ p) U s = c ∷ []
-comp-up K (suc n) [] U s = []
-comp-up K (suc n) (c ∷ p) U s = cap K (add (c * U ^ suc n ∷ []) (mul s (comp-up K n p U s)))
-
-pub fits-lo : (K n : ℕ) (p : List ℕ) (U : ℕ) (s : List ℕ) → T (fits K (comp-lo K n p U s))
-unfolding comp-lo
-fits-lo K zero [] U s = fits-nil K
-fits-lo K zero (c ∷ p) U s = fits-one K c
-fits-lo K (suc n) [] U s = fits-nil K
-fits-lo K (suc n) (c ∷ p) U s = fits-cut K (add (c * U ^ suc n ∷ []) (mul s (comp-lo K n p U s)))
-
-pub fits-up' : (K n : ℕ) (p : List ℕ) (U : ℕ) (s : List ℕ) → T (fits K (comp-up K n p U s))
-unfolding comp-up
-fits-up' K zero [] U s = fits-nil K
-fits-up' K zero (c ∷ p) U s = fits-one K c
-fits-up' K (suc n) [] U s = fits-nil K
-fits-up' K (suc n) (c ∷ p) U s = fits-cap K (add (c * U ^ suc n ∷ []) (mul s (comp-up K n p U s)))
+pub fits-by : (K : ℕ) (k : List ℕ → List ℕ) → ((p : List ℕ) → T (fits K (k p))) → (n : ℕ) (p : List ℕ) (U : ℕ) (s : List ℕ) → T (fits K (comp-by k n p U s))
+unfolding comp-by
+fits-by K k f zero [] U s = fits-nil K
+fits-by K k f zero (c ∷ p) U s = fits-one K c
+fits-by K k f (suc n) [] U s = fits-nil K
+fits-by K k f (suc n) (c ∷ p) U s = f (add (c * U ^ suc n ∷ []) (mul s (comp-by k n p U s)))
 
 -- k + s r, at degree m + K
 h-step : (m K k : ℕ) (s r : List ℕ) (a b : ℕ) → T (fits m s) → T (fits K r) → h (m + K) (add (k ∷ []) (mul s r)) a b ≡ k * (b ^ m * b ^ K) + h m s a b * h K r a b
 h-step m K k s r a b t u = rw (h-add (m + K) (k ∷ []) (mul s r) a b, h-const (m + K) k a b, h-mul m K s r a b t u, pow-add b m K)
 
-low : (L y bm bK bn kk hr hp : ℕ) (c un : ℕ) → L * bm ≤ c * un * (bm * bK) + y * hr → hr * bn ≤ hp * bK → L * (bn * bm) ≤ (c * (un * (bn * bm)) + y * hp) * bK
-low L y bm bK bn kk hr hp c un l m = omega (arith, mul-le-mul-right bn l, mul-le-mul-left y m)
+low : (L y bm bK bn hr hp c un : ℕ) → L * bm ≤ c * un * (bm * bK) + y * hr → hr * bn ≤ hp * bK → L * (bn * bm) ≤ (c * (un * (bn * bm)) + y * hp) * bK
+low L y bm bK bn hr hp c un l m = omega (arith, mul-le-mul-right bn l, mul-le-mul-left y m)
 
-high : (L y bm bK bn kk hr hp : ℕ) (c un : ℕ) → c * un * (bm * bK) + y * hr ≤ L * bm → hp * bK ≤ hr * bn → (c * (un * (bn * bm)) + y * hp) * bK ≤ L * (bn * bm)
-high L y bm bK bn kk hr hp c un l m = omega (arith, mul-le-mul-right bn l, mul-le-mul-left y m)
+high : (L y bm bK bn hr hp c un : ℕ) → c * un * (bm * bK) + y * hr ≤ L * bm → hp * bK ≤ hr * bn → (c * (un * (bn * bm)) + y * hp) * bK ≤ L * (bn * bm)
+high L y bm bK bn hr hp c un l m = omega (arith, mul-le-mul-right bn l, mul-le-mul-left y m)
 
 pub lo-le : (K n m : ℕ) (p : List ℕ) (U : ℕ) (s : List ℕ) (a b : ℕ) → T (fits m s)
-    → h K (comp-lo K n p U s) a b * b ^ (n * m) ≤ h n p (h m s a b) (U * b ^ m) * b ^ K
-unfolding h comp-lo
+    → h K (comp-by (cut K) n p U s) a b * b ^ (n * m) ≤ h n p (h m s a b) (U * b ^ m) * b ^ K
+unfolding h comp-by
 lo-le K zero m [] U s a b t = rw (h-nil K a b) (omega arith)
 lo-le K zero m (c ∷ p) U s a b t = rw (zero-mul m, pow-zero b, h-const K c a b) (omega arith)
 lo-le K (suc n) m [] U s a b t = rw (h-nil K a b) (omega arith)
 lo-le K (suc n) m (c ∷ p) U s a b t =
     rw (pow-mul U (b ^ m) (suc n), pow-pow b m (suc n), suc-mul n m, pow-add b (n * m) m)
-    (low (h K (cut K (add (c * U ^ suc n ∷ []) (mul s (comp-lo K n p U s)))) a b) (h m s a b) (b ^ m) (b ^ K) (b ^ (n * m)) 0 (h K (comp-lo K n p U s) a b)
+    (low (h K (cut K (add (c * U ^ suc n ∷ []) (mul s (comp-by (cut K) n p U s)))) a b) (h m s a b) (b ^ m) (b ^ K) (b ^ (n * m)) (h K (comp-by (cut K) n p U s) a b)
     (h n p (h m s a b) (U * b ^ m)) c (U ^ suc n)
-    (rw (h-step m K (c * U ^ suc n) s (comp-lo K n p U s) a b t (fits-lo K n p U s)) at (h-cut m K (add (c * U ^ suc n ∷ []) (mul s (comp-lo K n p U s))) a b))
+    (rw (h-step m K (c * U ^ suc n) s (comp-by (cut K) n p U s) a b t (fits-by K (cut K) (fits-cut K) n p U s)) at (h-cut m K (add (c * U ^ suc n ∷ []) (mul s (comp-by (cut K) n p U s))) a b))
     (lo-le K n m p U s a b t))
 
 pub le-up : (K n m : ℕ) (p : List ℕ) (U : ℕ) (s : List ℕ) (a b : ℕ) → a * 3 ≤ b → T (fits m s)
-    → h n p (h m s a b) (U * b ^ m) * b ^ K ≤ h K (comp-up K n p U s) a b * b ^ (n * m)
-unfolding h comp-up
+    → h n p (h m s a b) (U * b ^ m) * b ^ K ≤ h K (comp-by (cap K) n p U s) a b * b ^ (n * m)
+unfolding h comp-by
 le-up K zero m [] U s a b l t = rw (h-nil K a b) (omega arith)
 le-up K zero m (c ∷ p) U s a b l t = rw (zero-mul m, pow-zero b, h-const K c a b) (omega arith)
 le-up K (suc n) m [] U s a b l t = rw (h-nil K a b) (omega arith)
 le-up K (suc n) m (c ∷ p) U s a b l t =
     rw (pow-mul U (b ^ m) (suc n), pow-pow b m (suc n), suc-mul n m, pow-add b (n * m) m)
-    (high (h K (cap K (add (c * U ^ suc n ∷ []) (mul s (comp-up K n p U s)))) a b) (h m s a b) (b ^ m) (b ^ K) (b ^ (n * m)) 0 (h K (comp-up K n p U s) a b)
+    (high (h K (cap K (add (c * U ^ suc n ∷ []) (mul s (comp-by (cap K) n p U s)))) a b) (h m s a b) (b ^ m) (b ^ K) (b ^ (n * m)) (h K (comp-by (cap K) n p U s) a b)
     (h n p (h m s a b) (U * b ^ m)) c (U ^ suc n)
-    (rw (h-step m K (c * U ^ suc n) s (comp-up K n p U s) a b t (fits-up' K n p U s)) at
-    (h-cap m K (add (c * U ^ suc n ∷ []) (mul s (comp-up K n p U s))) a b l
-    (fits-add (m + K) (c * U ^ suc n ∷ []) (mul s (comp-up K n p U s)) (fits-one (m + K) (c * U ^ suc n)) (fits-mul m K s (comp-up K n p U s) t (fits-up' K n p U s)))))
+    (rw (h-step m K (c * U ^ suc n) s (comp-by (cap K) n p U s) a b t (fits-by K (cap K) (fits-cap K) n p U s)) at
+    (h-cap m K (add (c * U ^ suc n ∷ []) (mul s (comp-by (cap K) n p U s))) a b l
+    (fits-add (m + K) (c * U ^ suc n ∷ []) (mul s (comp-by (cap K) n p U s)) (fits-one (m + K) (c * U ^ suc n)) (fits-mul m K s (comp-by (cap K) n p U s) t (fits-by K (cap K) (fits-cap K) n p U s)))))
     (le-up K n m p U s a b l t))

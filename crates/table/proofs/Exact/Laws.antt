@@ -4,6 +4,7 @@ use mathlib.Core.Bool.{Bool, true, false}
 use mathlib.Core.List.{List, [], _∷_}
 use Prim.Native.Nat.{ℕ, zero, suc, _+_, _-_, _*_, _^_, _≤_, _<_}
 use native.Mathlib.Nat.{zero-mul, add-zero, zero-add, add-suc, suc-add, mul-le-mul, mul-le-mul-left, mul-le-mul-right, add-comm, pow-succ', pow-zero, mul-one, suc-mul, one-le-pow, le-of-mul-le-mul-right}
+use native.Mathlib.Numerals.{one-add}
 use native.Mathlib.Omega.{arith}
 use lib.Dec.{T}
 use lib.Pow.{pow-add}
@@ -58,6 +59,13 @@ h-lift M zero (c ∷ []) a b t = rw (add-zero M, h-const M c a b) (omega arith)
 h-lift M zero (c ∷ d ∷ p) a b t = absurd t
 h-lift M (suc K) [] a b t = rw (h-nil (M + suc K) a b) (omega arith)
 h-lift M (suc K) (c ∷ p) a b t = rw (add-suc M K, h-lift M K p a b t, pow-succ' b (M + K), pow-add b M K, pow-succ' b K) (omega arith)
+
+-- one degree more, and r + x p
+pub h-more : (K : ℕ) (p : List ℕ) (a b : ℕ) → T (fits K p) → h (suc K) p a b ≡ b * h K p a b
+h-more K p a b f = rw (← one-add K, h-lift 1 K p a b f, pow-one b)
+
+pub h-next : (K : ℕ) (r p : List ℕ) (a b : ℕ) → h (suc K) (add r (0 ∷ p)) a b ≡ h (suc K) r a b + a * h K p a b
+h-next K r p a b = rw (h-add (suc K) r (0 ∷ p) a b, h-shift K p a b)
 
 pub axpy-is : (c : ℕ) (p q : List ℕ) → axpy c p q ≡ add (scale c p) q
 unfolding axpy add scale

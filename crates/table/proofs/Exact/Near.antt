@@ -38,30 +38,30 @@ pub P-den-pos : (b : ℕ) → zero < b → zero < f23 * b ^ 23
 unfolding f23
 P-den-pos b z = mul-pos {m = 25852016738884976640000} (lit< tt) (one-le-pow 23 b z)
 
-rest-small : h 22 (rest pcoef) 1 256 ≤ 2 * f23 * 256 ^ 22
+rest-small : h 22 (rest pcoef) 1 256 * 256 ≤ 257 * f23 * 256 ^ 22
 unfolding h pcoef rest f23
 rest-small = lit≤ tt
 
-rest-at : (x b : ℕ) → x * 256 ≤ 1 * b → h 22 (rest pcoef) x b ≤ 2 * f23 * b ^ 22
+rest-at : (x b : ℕ) → x * 256 ≤ 1 * b → h 22 (rest pcoef) x b * 256 ≤ 257 * f23 * b ^ 22
 rest-at x b l =
     le-of-mul-le-mul-right {k = 256 ^ 22}
-    (turn (h 22 (rest pcoef) x b) (256 ^ 22) (h 22 (rest pcoef) 1 256) (b ^ 22) (2 * f23) (h-mono 22 (rest pcoef) x b 1 256 l) rest-small)
+    (turn (h 22 (rest pcoef) x b) (256 ^ 22) (h 22 (rest pcoef) 1 256) (b ^ 22) (257 * f23) (h-mono 22 (rest pcoef) x b 1 256 l) rest-small)
     (lit< tt)
   where
-    turn : (y e u p v : ℕ) → y * e ≤ u * p → u ≤ v * e → y * e ≤ v * p * e
+    turn : (y e u p v : ℕ) → y * e ≤ u * p → u * 256 ≤ v * e → y * 256 * e ≤ v * p * e
     turn y e u p v m n = omega (arith, mul-le-mul-right p n)
 
--- P(x) ≤ 1 + 2 x, for x ≤ 1 / 256
-pub P-small : (x b : ℕ) → x * 256 ≤ 1 * b → h 23 pcoef x b * b ≤ f23 * b ^ 23 * (b + 2 * x)
+-- P(x) ≤ 1 + 257 / 256 x, for x ≤ 1 / 256
+pub P-small : (x b : ℕ) → x * 256 ≤ 1 * b → h 23 pcoef x b * (256 * b) ≤ f23 * b ^ 23 * (256 * b + 257 * x)
 P-small x b l = rw (split x b) (go f23 (b ^ 22) (b ^ 23) b x (h 22 (rest pcoef) x b) (pow-succ' b 22) (rest-at x b l))
   where
-    go : (f c d b x t : ℕ) → d ≡ b * c → t ≤ 2 * f * c → (f * d + x * t) * b ≤ f * d * (b + 2 * x)
+    go : (f c d b x t : ℕ) → d ≡ b * c → t * 256 ≤ 257 * f * c → (f * d + x * t) * (256 * b) ≤ f * d * (256 * b + 257 * x)
     go f c d b x t e m = rw e (omega (arith, mul-le-mul-left (x * b) m))
 
--- P(r + x) ≤ P(r) (1 + 2 x)
-pub P-step : (r x b : ℕ) → zero < b → r * 2560 ≤ 1792 * b → x * 256 ≤ 1 * b → h 23 pcoef (r + x) b * b ≤ h 23 pcoef r b * (b + 2 * x)
+-- P(r + x) ≤ P(r) (1 + 257 / 256 x)
+pub P-step : (r x b : ℕ) → zero < b → r * 2560 ≤ 1792 * b → x * 256 ≤ 1 * b → h 23 pcoef (r + x) b * (256 * b) ≤ h 23 pcoef r b * (256 * b + 257 * x)
 P-step r x b z l m =
-    over (f23 * b ^ 23) (h 23 pcoef (r + x) b) (h 23 pcoef r b) (h 23 pcoef x b) b (b + 2 * x) (P-den-pos b z)
+    over (f23 * b ^ 23) (h 23 pcoef (r + x) b) (h 23 pcoef r b) (h 23 pcoef x b) (256 * b) (256 * b + 257 * x) (P-den-pos b z)
     (rw (mul-assoc f23 (b ^ 23) (h 23 pcoef (r + x) b)) (sum-le r x b l (omega arith)))
     (P-small x b m)
   where

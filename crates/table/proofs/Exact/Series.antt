@@ -1,13 +1,12 @@
 -- P(S(z)) against (1 + z) / (1 - z), for 0 ≤ z ≤ 1/3, by the composition cut at degree 63
-use mathlib.Core.Path.{_≡_}
 use mathlib.Core.List.{List, [], _∷_}
 use Prim.Native.Nat.{ℕ, zero, _+_, _*_, _^_, _≤_, _<_}
 use native.Mathlib.Nat.{mul-le-mul-left, mul-le-mul-right, le-of-mul-le-mul-right, one-le-pow, pow-succ'}
 use native.Mathlib.Omega.{arith}
 use lib.Dec.{T, lit<, lit≤}
 use Rattle.table.proofs.Exact.Poly.{h, add, axpy, mul}
-use Rattle.table.proofs.Exact.Laws.{sub, fits, h-two, h-add, h-shift, h-lift, pow-one, near}
-use Rattle.table.proofs.Exact.Cap.{cut, cap, up, comp-lo, comp-up, fits-lo, fits-up', lo-le, le-up}
+use Rattle.table.proofs.Exact.Laws.{sub, fits, h-two, h-more, h-next, near}
+use Rattle.table.proofs.Exact.Cap.{cut, cap, up, comp-by, fits-cut, fits-cap, fits-by, lo-le, le-up}
 use Rattle.table.proofs.Exact.Terms.{pcoef}
 
 unfoldable pub scoef : List ℕ
@@ -25,21 +24,21 @@ uS = 25852016738884976640000 * dS ^ 23
 
 -- U times P(S(z)), from below and from above
 pub lo : List ℕ
-lo = comp-lo 63 23 pcoef dS scoef
+lo = comp-by (cut 63) 23 pcoef dS scoef
 
 pub hi : List ℕ
-hi = comp-up 63 23 pcoef dS scoef
+hi = comp-by (cap 63) 23 pcoef dS scoef
 
 -- U times 1 + z + z p
-next : List ℕ → List ℕ
+abbrev next : List ℕ → List ℕ
 next p = add (uS ∷ uS ∷ []) (0 ∷ p)
 
 no-more : h 64 (sub hi (next lo)) 1 3 * 2 ^ 93 ≤ uS * 3 ^ 64
-unfolding next lo hi comp-lo comp-up cut cap up uS dS pcoef scoef axpy mul add sub h
+unfolding lo hi comp-by cut cap up uS dS pcoef scoef axpy mul add sub h
 no-more = lit≤ tt
 
 little-less : h 64 (sub (next hi) lo) 1 3 * 2 ^ 81 ≤ uS * 3 ^ 64
-unfolding next lo hi comp-lo comp-up cut cap up uS dS pcoef scoef axpy mul add sub h
+unfolding lo hi comp-by cut cap up uS dS pcoef scoef axpy mul add sub h
 little-less = lit≤ tt
 
 fits-s : T (fits 47 scoef)
@@ -60,18 +59,11 @@ is-hi a b l = le-up 63 23 47 pcoef dS scoef a b l fits-s
 
 fits-l : T (fits 63 lo)
 unfolding lo
-fits-l = fits-lo 63 23 pcoef dS scoef
+fits-l = fits-by 63 (cut 63) (fits-cut 63) 23 pcoef dS scoef
 
 fits-h : T (fits 63 hi)
 unfolding hi
-fits-h = fits-up' 63 23 pcoef dS scoef
-
-next-is : (p : List ℕ) (a b : ℕ) → h 64 (next p) a b ≡ uS * b ^ 64 + a * (uS * b ^ 63) + a * h 63 p a b
-unfolding next
-next-is p a b = rw (h-add 64 (uS ∷ uS ∷ []) (0 ∷ p) a b, h-shift 63 p a b, h-two 63 uS uS a b)
-
-lift : (p : List ℕ) (a b : ℕ) → T (fits 63 p) → h 64 p a b ≡ b * h 63 p a b
-lift p a b f = rw (h-lift 1 63 p a b f, pow-one b)
+fits-h = fits-by 63 (cap 63) (fits-cap 63) 23 pcoef dS scoef
 
 -- arithmetic alone: v the value, x and y its bounds, c = b ^ 63, d = b ^ 1081
 carry-up : (B A k c d v x y : ℕ) → zero < c → x * d ≤ v * c → v * c ≤ y * d → B * y ≤ k * c + A * x → B * v ≤ k * d + A * v
@@ -92,10 +84,10 @@ pub upper : (a b : ℕ) → zero < b → a * 3 ≤ 1 * b → b * pS a b * 2 ^ 93
 upper a b z l =
     rw (pow-succ' b 1081)
     (through-up a b (b ^ 63) (b ^ 1081) uS (pS a b) (h 63 lo a b) (h 63 hi a b) (2 ^ 93) (one-le-pow 63 b z) (lo-is a b) (is-hi a b (omega arith))
-    (rw (lift hi a b fits-h, next-is lo a b, pow-succ' b 63) at (near 64 hi (next lo) a b 1 3 (2 ^ 93) uS l (lit< tt) no-more)))
+    (rw (h-more 63 hi a b fits-h, h-next 63 (uS ∷ uS ∷ []) lo a b, h-two 63 uS uS a b, pow-succ' b 63) at (near 64 hi (next lo) a b 1 3 (2 ^ 93) uS l (lit< tt) no-more)))
 
 pub lower : (a b : ℕ) → zero < b → a * 3 ≤ 1 * b → (uS * b ^ 1082 + a * (uS * b ^ 1081) + a * pS a b) * 2 ^ 81 ≤ b * pS a b * 2 ^ 81 + uS * b ^ 1082
 lower a b z l =
     rw (pow-succ' b 1081)
     (through-down a b (b ^ 63) (b ^ 1081) uS (pS a b) (h 63 lo a b) (h 63 hi a b) (2 ^ 81) (one-le-pow 63 b z) (lo-is a b) (is-hi a b (omega arith))
-    (rw (lift lo a b fits-l, next-is hi a b, pow-succ' b 63) at (near 64 (next hi) lo a b 1 3 (2 ^ 81) uS l (lit< tt) little-less)))
+    (rw (h-more 63 lo a b fits-l, h-next 63 (uS ∷ uS ∷ []) hi a b, h-two 63 uS uS a b, pow-succ' b 63) at (near 64 (next hi) lo a b 1 3 (2 ^ 81) uS l (lit< tt) little-less)))

@@ -1,48 +1,48 @@
--- `exp::exp_f64` meets its contract: a refusal, a saturated answer, or a power. Assumes nothing.
-use mathlib.Core.Path.{sym, ap, _∙_}
+-- `exp::exp_f64` meets its contract, by the fields of x's pattern. Assumes nothing.
+use mathlib.Core.Path.{_∙_}
 use mathlib.Core.Bool.{true, false}
+use native.Mathlib.Omega.{arith}
 use lib.Ieee.{binary64, ofBits, div}
 use borrow.Author.Needs.{needs}
 use Rattle.soft.proofs.units.Value.{holds}
-use Rattle.kernels.specs.Kernels.{fromPower}
-use Rattle.kernels.proofs.exp.Argument.{refused, passed, Operand, digits-in, argument, saturated}
+use Rattle.kernels.proofs.exp.Cases.{refused, no-nan, infinite, near, tiny, far}
 use Rattle.kernels.proofs.exp.exp_f64.Statement.{statement}
 use Rattle.kernels.proofs.exp.exp_f64.Tie as tie
 
-operand : (c : tie.After-measure) → Operand (c .before .before .before .args .x) (c .measure .result)
-operand c = record {
-  held = holds (c .before .before .before .good .0 .1);
-  finite-is = passed (c .before .before .before .args .x) (c .before .before .is-finite .result) (c .before .before .is-finite .ensures) (c .before .if1 .left);
-  measure-is = c .measure .ensures;
-}
-
-is-finite-requires : tie.Need-is-finite-requires
-is-finite-requires c κs = search needs
-
 returns : tie.Need-returns
 unfolding ofBits div
-returns c = refused binary64 (c .before .before .args .x) (c .before .is-finite .result) (c .before .is-finite .ensures) (c .if1 .taken)
-
-measure-requires : tie.Need-measure-requires
-measure-requires c κs = search needs
+returns c = refused binary64 (c .before .args .x) (c .if1 .taken)
 
 returns-2 : tie.Need-returns-2
-unfolding ofBits
-returns-2 c = saturated binary64 (c .before .before .before .before .before .args .x) (c .before .before .measure .result) (operand (c .before .before)) (c .before .if2 .taken) true (c .if3 .taken)
+returns-2 c =
+    let s = c .before .before .before .before .before .before in
+    let a = c .before .before .turns-f64 in
+    c .power-f64 .ensures
+    ∙ near binary64 (s .args .x) (holds (s .good .0 .1)) (c .before .before .before .before .before .if1 .left) (omega arith) (omega arith) (a .result) (c .before .signed .result) (a .ensures .0) (a .ensures .1) (c .before .signed .ensures)
 
 returns-3 : tie.Need-returns-3
-unfolding ofBits div
-returns-3 c = saturated binary64 (c .before .before .before .before .before .args .x) (c .before .before .measure .result) (operand (c .before .before)) (c .before .if2 .taken) false (c .if3 .left)
-
-fixed-requires : tie.Need-fixed-requires
-fixed-requires c κs = (digits-in binary64 (c .before .before .before .before .args .x) (c .before .measure .result) (operand (c .before)), c .if2 .left)
-
-power-f64-requires : tie.Need-power-f64-requires
-power-f64-requires c κs = search needs
+unfolding ofBits
+returns-3 c = let s = c .before .before .before .before in tiny binary64 (s .args .x) (holds (s .good .0 .1)) (c .before .before .before .if1 .left) (c .if3 .taken)
 
 returns-4 : tie.Need-returns-4
-returns-4 c = c .power-f64 .ensures ∙ ap (fromPower binary64 (c .before .before .before .measure .result .negative)) (c .before .fixed .ensures .is) ∙ sym (argument binary64 (c .before .before .before .before .before .before .args .x) (c .before .before .before .measure .result) (operand (c .before .before .before)))
+unfolding ofBits div
+returns-4 c = let s = c .before .before .before .before .before in infinite binary64 (s .args .x) (holds (s .good .0 .1)) (c .if4 .taken)
+
+returns-5 : tie.Need-returns-5
+unfolding ofBits
+returns-5 c =
+    let s = c .before .before .before .before .before .before in
+    far binary64 (s .args .x) (holds (s .good .0 .1)) (c .before .before .before .before .before .if1 .left) (omega arith) (c .before .if4 .left) true (c .if5 .taken)
+
+returns-6 : tie.Need-returns-6
+unfolding ofBits div
+returns-6 c =
+    let s = c .before .before .before .before .before .before in
+    far binary64 (s .args .x) (holds (s .good .0 .1)) (c .before .before .before .before .before .if1 .left) (omega arith) (c .before .if4 .left) false (c .if5 .left)
 
 pub exp-f64-spec : {M : Type 1} → statement M
 exp-f64-spec =
-    tie.close (tie.spec is-finite-requires returns measure-requires returns-2 returns-3 fixed-requires power-f64-requires returns-4)
+    tie.close
+    (tie.spec
+    returns (λ c. no-nan (c .before .args .x) (c .if1 .left)) (λ c κs. search needs) (λ c κs. search needs) (λ c κs. search needs) (λ c κs. search needs)
+    returns-2 returns-3 returns-4 returns-5 returns-6)

@@ -1,88 +1,94 @@
--- L's series at m and at M, m with its digits moved up to 63, is one number: so the core at M is near L's series at m. Assumes nothing.
-use mathlib.Core.Path.{_≡_, sym, ap, _∙_}
+-- A number with its digits moved up to w has 2 ^ (w - 1) as its leading digit's weight, and L's series is at both one number. Assumes nothing.
+use mathlib.Core.Path.{_≡_, sym, ap, _∙_, subst}
 use Prim.Native.Nat.{ℕ, zero, _+_, _-_, _*_, _^_, _≤_, _<_}
-use native.Mathlib.Nat.{mul-sub, le-of-lt, lt-of-lt-of-le, mul-le-mul-left, le-of-mul-le-mul-left, mul-pos, one-le-pow}
+use native.Mathlib.Nat.{mul-comm, mul-sub, le-trans, mul-le-mul-left, mul-le-mul-right, le-of-mul-le-mul-left, mul-pos, one-le-pow}
 use native.Mathlib.Omega.{arith}
-use lib.Dec.{lit≤}
-use lib.Ieee.{Format, binary32, binary64, prec, size}
-use lib.Ieee.Digits.{size-reaches}
-use lib.Pow.{pow-pos, pow-mono, pow-add}
-use Rattle.table.specs.Exact.{N, odds, oddFact, lead, seriesNum, seriesDen}
+use lib.Ieee.{size}
+use lib.Ieee.Digits.{size-lt, size-le, size-reaches}
+use lib.Pow.{pow-add, pow-mono}
+use Rattle.table.specs.Exact.{oddFact, lead, seriesNum, seriesDen}
 use Rattle.table.proofs.Exact.Poly.{h}
 use Rattle.table.proofs.Exact.Laws.{pow-mul}
 use Rattle.table.proofs.Exact.Series.{scoef, dS}
 use Rattle.table.proofs.Exact.Frac.{h-homog}
 use Rattle.table.proofs.Exact.Odds.{odds-series}
-use Rattle.soft.proofs.Rounding.Place.{normalised-lt, normalised-ge, size-pos, digits63}
-use Rattle.kernels.specs.Core.{gap, lnBelow, index, moved}
+use Rattle.soft.proofs.Rounding.Place.{size-pos}
+use Rattle.kernels.specs.Logarithm.{moved}
 use Rattle.laws.proofs.Distances.logarithm.Sum.{Sn, Sd, dS-pos}
-use Rattle.laws.proofs.Distances.logarithm.Core.{error, Near, near-at}
+use Rattle.laws.proofs.Distances.logarithm.Core.{Sides, Scaled}
 
--- ---- the same number n / d = S / D
-same-above : (o c S D n d w x l y : ℕ) → zero < c → o * S ≡ c * n → o * D ≡ c * d → S * w + 256 * l * D ≤ (x + y) * D → n * w + 256 * l * d ≤ (x + y) * d
-same-above o c S D n d w x l y z e1 e2 h =
+-- ---- S / D and n / d are one number
+pub record Same (S D n d : ℕ) : Type 0 where
+  pub o : ℕ
+  pub c : ℕ
+  pub some : zero < c
+  pub num : o * S ≡ c * n
+  pub den : o * D ≡ c * d
+
+move : (o c S D n d A B C E : ℕ) → zero < c → o * S ≡ c * n → o * D ≡ c * d → S * A + B * D ≤ S * C + E * D → n * A + B * d ≤ n * C + E * d
+move o c S D n d A B C E z e1 e2 h =
     le-of-mul-le-mul-left {k = c}
-    (omega (arith, mul-le-mul-left o h, ap (λ (t : ℕ). t * w) e1, ap (λ (t : ℕ). l * t) e2, ap (λ (t : ℕ). x * t) e2, ap (λ (t : ℕ). y * t) e2)) z
+    (omega (arith, mul-le-mul-left o h, ap (λ (t : ℕ). t * A) e1, ap (λ (t : ℕ). t * C) e1, ap (λ (t : ℕ). B * t) e2, ap (λ (t : ℕ). E * t) e2)) z
 
-same-below : (o c S D n d w x l y : ℕ) → zero < c → o * S ≡ c * n → o * D ≡ c * d → x * D ≤ S * w + (256 * l + y) * D → x * d ≤ n * w + (256 * l + y) * d
-same-below o c S D n d w x l y z e1 e2 h =
-    le-of-mul-le-mul-left {k = c}
-    (omega (arith, mul-le-mul-left o h, ap (λ (t : ℕ). t * w) e1, ap (λ (t : ℕ). l * t) e2, ap (λ (t : ℕ). x * t) e2, ap (λ (t : ℕ). y * t) e2)) z
+pub move-both : {S D n d : ℕ} → Same S D n d → (A B C E : ℕ) → S * A + B * D ≤ S * C + E * D → n * A + B * d ≤ n * C + E * d
+move-both {S} {D} {n} {d} r A B C E h = move (r .o) (r .c) S D n d A B C E (r .some) (r .num) (r .den) h
 
-same : (o c S D n d x l y : ℕ) → zero < c → o * S ≡ c * n → o * D ≡ c * d → Near x l y S D → Near x l y n d
-same o c S D n d x l y z e1 e2 r =
-    record {
-      above = same-above o c S D n d (2 ^ 72) x l y z e1 e2 (r .above);
-      below = same-below o c S D n d (2 ^ 72) x l y z e1 e2 (r .below);
-    }
-
--- ---- at k a / k b
-num-is : (k a b : ℕ) → oddFact 23 * Sn (k * a) (k * b) ≡ k ^ 47 * dS * (2 * odds 23 a b)
-num-is k a b = rw (h-homog 47 scoef k a b) (turn (oddFact 23) (k ^ 47) (Sn a b) dS (odds 23 a b) (odds-series a b))
+move-up : {S D n d : ℕ} → Same S D n d → (W X Y : ℕ) → S * W + Y * D ≤ X * D → n * W + Y * d ≤ X * d
+move-up {S} {D} {n} {d} r W X Y h = off n (X * d) (move-both r W Y 0 X (on S (X * D) h))
   where
-    turn : (o p S d r : ℕ) → 2 * d * r ≡ o * S → o * (p * S) ≡ p * d * (2 * r)
-    turn o p S d r e = omega (arith, ap (λ (t : ℕ). p * t) e)
+    on : (S y : ℕ) {x : ℕ} → x ≤ y → x ≤ S * 0 + y
+    on S y l = omega (arith, l)
 
-den-is : (k b : ℕ) → oddFact 23 * Sd (k * b) ≡ k ^ 47 * dS * (oddFact 23 * b ^ 47)
-den-is k b = rw (pow-mul k b 47) (turn (oddFact 23) (k ^ 47) (b ^ 47) dS)
+    off : (n y : ℕ) {x : ℕ} → x ≤ n * 0 + y → x ≤ y
+    off n y l = omega (arith, l)
+
+move-down : {S D n d : ℕ} → Same S D n d → (W X Y : ℕ) → X * D ≤ S * W + Y * D → X * d ≤ n * W + Y * d
+move-down {S} {D} {n} {d} r W X Y h = off n (X * d) (move-both r 0 X W Y (on S (X * D) h))
   where
-    turn : (o p q d : ℕ) → o * (d * (p * q)) ≡ p * d * (o * q)
-    turn o p q d = omega arith
+    on : (S x : ℕ) {y : ℕ} → x ≤ y → S * 0 + x ≤ y
+    on S x l = omega (arith, l)
 
--- ---- at m
-pub in-63 : (f : Format) → prec f ≤ 63
-in-63 binary32 = lit≤ tt
-in-63 binary64 = lit≤ tt
+    off : (n x : ℕ) {y : ℕ} → n * 0 + x ≤ y → x ≤ y
+    off n x l = omega (arith, l)
 
-pub digits-in : (f : Format) (m : ℕ) → m < 2 ^ prec f → m < 2 ^ 63
-digits-in f m l = lt-of-lt-of-le l (pow-mono (in-63 f))
+pub move-sides : {S D n d : ℕ} (c l k j : ℕ) → Same S D n d → Sides c l k j S D → Sides c l k j n d
+move-sides c l k j r h = record { above = move-up r (2 ^ 72) (c + k) (256 * l) (h .above); below = move-down r (2 ^ 72) c (256 * l + j) (h .below) }
 
-pub lead-le : (m : ℕ) → zero < m → lead m ≤ m
-lead-le m z = size-reaches m (size m - 1) (less (size m) (size-pos m z))
-  where
-    less : (s : ℕ) → zero < s → s - 1 < s
-    less s z = omega arith
+pub move-scaled : {S D n d : ℕ} (c y k j a : ℕ) → Same S D n d → Scaled c y k j a S D → Scaled c y k j a n d
+move-scaled c y k j a r h = record { above = move-up r (2 ^ 72 * a) ((c + k) * a) y (h .above); below = move-down r (2 ^ 72 * a) (c * a) (y + j) (h .below) }
 
-lead-moved : (m : ℕ) → zero < m → m < 2 ^ 63 → 2 ^ (63 - size m) * lead m ≡ 2 ^ 62
-lead-moved m z l = sym (pow-add 2 (63 - size m) (size m - 1)) ∙ ap (λ (y : ℕ). 2 ^ y) (to-62 (size m) (size-pos m z) (digits63 m l))
-  where
-    to-62 : (s : ℕ) → zero < s → s ≤ 63 → 63 - s + (s - 1) ≡ 62
-    to-62 s a b = omega arith
-
+-- ---- L's series at m, and at m k with its leading digit's weight t
 minus-is : (m h k t : ℕ) → k * h ≡ t → m * k - t ≡ k * (m - h)
 minus-is m h k t e = rw (mul-sub k m h) (omega (arith, e))
 
 plus-is : (m h k t : ℕ) → k * h ≡ t → m * k + t ≡ k * (m + h)
 plus-is m h k t e = omega (arith, e)
 
-pub core-near : (f : Format) (m : ℕ) → zero < m → m < 2 ^ 63
-    → Near (index (moved m) * N) (lnBelow f (gap (index (moved m)) (moved m))) (error f) (seriesNum m) (seriesDen m)
-core-near f m z l =
-    let k = 2 ^ (63 - size m) in
-    let M = moved m in
-    let e = lead-moved m z l in
-    let a = m - lead m in
-    let b = m + lead m in
-    same (oddFact 23) (k ^ 47 * dS) (Sn (k * a) (k * b)) (Sd (k * b)) (seriesNum m) (seriesDen m) (index M * N) (lnBelow f (gap (index M) M)) (error f)
-    (mul-pos (one-le-pow 47 k (pow-pos (63 - size m))) dS-pos) (num-is k a b) (den-is k b)
-    (rw (minus-is m (lead m) k (2 ^ 62) e, plus-is m (lead m) k (2 ^ 62) e) at (near-at f M (normalised-ge m z l) (le-of-lt (normalised-lt m l))))
+pub series : (m k t : ℕ) → zero < k → k * lead m ≡ t → Same (Sn (m * k - t) (m * k + t)) (Sd (m * k + t)) (seriesNum m) (seriesDen m)
+series m k t z e =
+    rw (minus-is m (lead m) k t e, plus-is m (lead m) k t e)
+    (record {
+      o = oddFact 23;
+      c = k ^ 47 * dS;
+      some = mul-pos (one-le-pow 47 k z) dS-pos;
+      num = rw (h-homog 47 scoef k (m - lead m) (m + lead m)) (omega (arith, ap (λ (t : ℕ). (k ^ 47) * t) (odds-series (m - lead m) (m + lead m))));
+      den = rw (pow-mul k (m + lead m) 47) (omega arith);
+    })
+
+-- ---- the digits moved up to w
+pub lead-moved : (w m : ℕ) → zero < m → m < 2 ^ w → 2 ^ (w - size m) * lead m ≡ 2 ^ (w - 1)
+lead-moved w m z l = sym (pow-add 2 (w - size m) (size m - 1)) ∙ ap (λ (y : ℕ). 2 ^ y) (omega (arith, size-pos m z, size-le m w l))
+
+pub moved-ge : (w m : ℕ) → zero < m → m < 2 ^ w → 2 ^ (w - 1) ≤ moved w m
+moved-ge w m z l =
+    rw (← lead-moved w m z l, mul-comm (2 ^ (w - size m)) (lead m)) (mul-le-mul-right (2 ^ (w - size m)) (size-reaches m (size m - 1) (omega (arith, size-pos m z))))
+
+-- m of p digits or fewer ends in w - p zeros
+pub moved-room : (w p m : ℕ) → p ≤ w → m < 2 ^ p → moved w m + 2 ^ (w - p) ≤ 2 ^ w
+moved-room w p m n l =
+    le-trans (fit m (2 ^ (w - size m)) (2 ^ (w - p)) (2 ^ size m) (size-lt m) (pow-mono (omega (arith, size-le m p l))))
+    (subst (λ (y : ℕ). 2 ^ size m * 2 ^ (w - size m) ≤ y) (sym (pow-add 2 (size m) (w - size m)) ∙ ap (λ (y : ℕ). 2 ^ y) (omega (arith, le-trans (size-le m p l) n)))
+    (omega arith))
+  where
+    fit : (m k j t : ℕ) → m < t → j ≤ k → m * k + j ≤ t * k
+    fit m k j t a b = omega (arith, mul-le-mul-right k a)

@@ -1,0 +1,2 @@
+-- What the cut product's steps need.
+pub mod Halves

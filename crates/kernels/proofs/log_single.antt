@@ -1,0 +1,5 @@
+-- What the proofs of the logarithms of a single share.
+mod Gap
+mod Joined
+mod Low
+mod Pattern

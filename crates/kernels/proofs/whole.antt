@@ -1,0 +1,3 @@
+-- Whole numbers of either sign, and the words that hold them.
+pub mod Divide
+pub mod Words

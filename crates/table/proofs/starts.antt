@@ -1,2 +1,0 @@
--- What the proof of `start_in` cites.
-mod Arms
