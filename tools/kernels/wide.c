@@ -4,8 +4,8 @@
    wide [SINGLES] [DOUBLES]: how many points of pow_f32 (default 10^8) and of each double kernel (default 10^7).
 
    What the reference may be wrong by counts against the kernel: 2^-50 E for pow in double; in quad it is E and e^A that differ, since
-   2^64 ln 2 - N < 1: by k / 2^64 < 2^-53 of E up to |A| = 700, 2^-57 up to 32, and L and ln by 2^-62 |L|. The parts printed are by the
-   allowed distance itself. K4's distances are printed beside document 01's. */
+   2^64 ln 2 - N < 1: by k / 2^64 < 2^-53 of E up to |A| = 700, and L and ln by 2^-62 |L|. The parts printed are by the allowed distance
+   itself, in double K4's: 2^-50 E, 2^-52 |L| + 2^-60. */
 #define __STDC_WANT_IEC_60559_TYPES_EXT__ 1
 #include <inttypes.h>
 #include <math.h>
@@ -37,7 +37,7 @@ struct rule {
     double worst, x, y;
 };
 
-static struct rule near, k4, far, one;
+static struct rule near, far, one;
 
 /* error and slack as parts of the allowed */
 static void note(struct rule *r, double error, double slack, double x, double y) {
@@ -58,9 +58,9 @@ static void show(const char *name) {
     struct {
         const char *what;
         struct rule *rule;
-    } rows[] = {{"within document 01's distance", &near}, {"within K4's distance", &k4}, {"past the ends", &far}, {"x >= 1, y <= 0: never above 1", &one}};
+    } rows[] = {{"within its distance", &near}, {"past the ends", &far}, {"x >= 1, y <= 0: never above 1", &one}};
     printf("%s\n", name);
-    for (int i = 0; i < 4; i++) {
+    for (int i = 0; i < 3; i++) {
         struct rule *r = rows[i].rule;
         if (!r->asked) continue;
         printf("    %-32s %10" PRIu64 " asked, %" PRIu64 " violated", rows[i].what, r->asked, r->bad);
@@ -94,16 +94,14 @@ static void powers(uint64_t n) {
     show("fsrs_pow_f32");
 }
 
-static void near_double(double v, _Float128 e, double a, double x, double y) {
-    double part = (double)fabsf128((v - e) / e);
-    note(&near, part * 0x1p44, 0x1p-9, x, y);
-    if (a <= 32) note(&k4, part * 0x1p50, 0x1p-7, x, y);
+static void near_double(double v, _Float128 e, double x, double y) {
+    note(&near, (double)fabsf128((v - e) / e) * 0x1p50, 0x1p-3, x, y);
 }
 
 static void exps(uint64_t n) {
     for (uint64_t i = 0; i < n; i++) {
         double x = i % 4 == 0 ? both(700) : i % 4 == 1 ? both(32) : i % 4 == 2 ? both(2) : ldexp(both(1), -(int)(word() % 60));
-        near_double(fsrs_exp_f64(x), expf128((_Float128)x), fabs(x), x, 0);
+        near_double(fsrs_exp_f64(x), expf128((_Float128)x), x, 0);
     }
     show("fsrs_exp_f64");
 }
@@ -123,9 +121,7 @@ static void lns(uint64_t n) {
         double x = base(i);
         if (!(x > 0)) continue;
         _Float128 l = logf128((_Float128)x), size = fabsf128(l), error = fabsf128(fsrs_ln_f64(x) - l);
-        _Float128 allowed = size * 0x1p-50 + 0x1p-48, tight = size * 0x1p-52 + 0x1p-60;
-        note(&near, (double)(error / allowed), 0x1p-10, x, 0);
-        note(&k4, (double)(error / tight), 0x1p-10, x, 0);
+        note(&near, (double)(error / (size * 0x1p-52 + 0x1p-60)), 0x1p-10, x, 0);
     }
     show("fsrs_ln_f64");
 }
@@ -142,7 +138,7 @@ static void pows(uint64_t n) {
         if (x >= 1 && y <= 0) hold(&one, v <= 1, x, y);
         if (a >= 710.0001) hold(&far, v == INFINITY, x, y);
         else if (a <= -710.0001) hold(&far, v == 0 && !signbit(v), x, y);
-        else if (fabsf128(a) <= 699.9999) near_double(v, expf128(a), (double)fabsf128(a), x, y);
+        else if (fabsf128(a) <= 699.9999) near_double(v, expf128(a), x, y);
     }
     show("fsrs_pow_f64");
 }

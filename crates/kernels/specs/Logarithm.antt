@@ -1,7 +1,7 @@
 -- The logarithm behind ln and pow, over whole numbers: for x = m 2 ^ e, the k with 2 ^ k ≤ x < 2 ^ (k + 1), the first entry i that lies above every
 -- number with x's first ten digits, and the part g by which x lies below that entry: ln x = J ln 2 / 256 + ln (1 - g), J = 256 k + i. Assumes nothing.
 use Prim.Native.Nat.{ℕ, _+_, _-_, _*_, _/_, _^_}
-use mathlib.Core.Bool.{Bool, true, false, cond, _&&_}
+use mathlib.Core.Bool.{Bool, false, cond, _&&_}
 use lib.Dec.{eqb, ltb}
 use lib.IntN.{ℤ, pos, negsuc, _+ℤ_, _-ℤ_, _*ℤ_}
 use lib.Ieee.{Format, binary32, binary64, size}

@@ -1,4 +1,4 @@
--- What is promised of exp, ln and pow, from document 01, 'Exact values behind the kernels'. The code is proved equal to expDef, lnDef
+-- What is promised of exp, ln and pow, from document 01, 'Exact values behind the kernels', and in double from change request K4. The code is proved equal to expDef, lnDef
 -- and powDef (kernels/specs); these statements are about those definitions. Their proofs stand in proofs/Distances. Assumes nothing.
 use mathlib.Core.Path.{_≡_}
 use mathlib.Core.Bool.{Bool, true, false, not, _&&_, Bool·beq, cond}
@@ -24,28 +24,33 @@ Near p (fin false m e) q =
 abbrev pub apart : Bool → ℕ → Bool → ℕ → ℕ
 apart s x t v = cond (Bool·beq s t) ((x - v) + (v - x)) (x + v)
 
--- y is a number, and within 2 ^ -p * |q| + 2 ^ -48 of q. Over one denominator d: y = ±x / d, q = ±v / d
-abbrev pub Close : ℕ → Float → Signed → Type 0
-Close p nan q = ⊥
-Close p (inf s) q = ⊥
-Close p (fin s m e) q =
+-- y is a number, and within 2 ^ -p * |q| + 2 ^ -a of q. Over one denominator d: y = ±x / d, q = ±v / d
+abbrev pub Close : (p a : ℕ) → Float → Signed → Type 0
+Close p a nan q = ⊥
+Close p a (inf s) q = ⊥
+Close p a (fin s m e) q =
     let x = m * up e * q .size .den in
     let v = q .size .num * down e in
     let d = q .size .den * down e in
-    apart s x (q .negative) v * 2 ^ (p + 48) ≤ v * 2 ^ 48 + d * 2 ^ p
+    apart s x (q .negative) v * 2 ^ (p + a) ≤ v * 2 ^ a + d * 2 ^ p
 
--- |A| ≤ 86 and 2 ^ -23 in single, |A| ≤ 700 and 2 ^ -44 in double
+-- |A| ≤ 86 and 2 ^ -23 in single, |A| ≤ 700 and 2 ^ -50 in double: document 01 asks 2 ^ -44 there, and K4 2 ^ -50 up to 32
 abbrev pub reach : Format → ℕ
 reach binary32 = 86
 reach binary64 = 700
 
 abbrev pub powerBits : Format → ℕ
 powerBits binary32 = 23
-powerBits binary64 = 44
+powerBits binary64 = 50
 
+-- 2 ^ -23 |L| + 2 ^ -48 in single, 2 ^ -52 |L| + 2 ^ -60 in double (K4; document 01 asks 2 ^ -50 |L| + 2 ^ -48)
 abbrev pub logBits : Format → ℕ
 logBits binary32 = 23
-logBits binary64 = 50
+logBits binary64 = 52
+
+abbrev pub absBits : Format → ℕ
+absBits binary32 = 48
+absBits binary64 = 60
 
 -- from |A| = 89 or 710 on the result is +infinity or +0
 abbrev pub edge : Format → ℕ
@@ -66,7 +71,7 @@ ExpEnds f = (s : Bool) (m : ℕ) (e : ℤ) → T (fits f (fin s m e)) → edge f
 
 -- ln(x), for x = m * 2 ^ e above 0
 abbrev pub LnClose : Format → Type 0
-LnClose f = (m : ℕ) (e : ℤ) → T (fits f (fin false (suc m) e)) → Close (logBits f) (lnDef f (fin false (suc m) e)) (L (suc m) e)
+LnClose f = (m : ℕ) (e : ℤ) → T (fits f (fin false (suc m) e)) → Close (logBits f) (absBits f) (lnDef f (fin false (suc m) e)) (L (suc m) e)
 
 -- pow(x, y), for x = m * 2 ^ e above 0 and y = ±n * 2 ^ d from -16 to 16: A is y * L(x) = ±(n 2 ^ d num) / den
 abbrev pub argument : (n : ℕ) (d : ℤ) → Frac → Frac

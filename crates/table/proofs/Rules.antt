@@ -9,7 +9,7 @@ use lib.Arith.{lt-of-le-ne}
 use lib.Dec.{T, eqb, eqb→eq, leb, leb→le, ltb, ltb→lt, nltb→le}
 use lib.ListN.{length, getD}
 use Rattle.table.specs.Exact.{P, taylor, fact}
-use Rattle.table.specs.Entry.{entry, index, indexAt}
+use Rattle.table.specs.Entry.{entry, indexAt}
 use Rattle.table.specs.inner.Lists.{powers, firsts, None}
 use Rattle.table.proofs.Every.{both, both-left, both-right, every, at}
 use Rattle.table.proofs.Entries.{entry-end}

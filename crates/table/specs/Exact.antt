@@ -1,7 +1,7 @@
 -- The exact values behind the kernels, as document 01 states them ('Exact values behind the kernels'): P, E and L, each a fraction of whole numbers.
 -- Nothing is rounded here. Assumes nothing.
 use Prim.Native.Nat.{ℕ, zero, suc, _+_, _-_, _*_, _/_, _^_}
-use mathlib.Core.Bool.{Bool, true, false}
+use mathlib.Core.Bool.{Bool}
 use lib.Dec.{ltb}
 use lib.IntN.{ℤ, pos, negsuc, _+ℤ_}
 use lib.Signed.{shrZ}

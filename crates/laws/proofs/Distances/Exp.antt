@@ -15,7 +15,7 @@ use Rattle.kernels.proofs.Definitions.Natural.{lift, biased, whole, powerN, pow
 use Rattle.laws.specs.Distances.{Near, powerBits, reach, ExpNear}
 use Rattle.laws.proofs.Distances.power.Table.{top}
 use Rattle.laws.proofs.Distances.power.Near.{grain, slack, most, M, M-low, M-high, power-near}
-use Rattle.laws.proofs.Distances.Finish.{bits, looser, finish-near}
+use Rattle.laws.proofs.Distances.Finish.{finish-near}
 
 -- ---- the argument: how far it may lie below, in units of 2 ^ -116
 abbrev off : Format → ℕ
@@ -102,7 +102,7 @@ longer' m e d g n t h l u q k = rw (← q) (omega (arith, mul-le-mul-right l k))
 
 -- ---- the power of z, where ±a / b lies near
 pub power-is-near : (f : Format) (neg : Bool) (a b z o : ℕ) → zero < b → z < far f * 2 ^ 52 → 2 ^ 116 * a ≤ z * (N * b) + o * b
-    → z * (N * b) ≤ 2 ^ 116 * a + o * b → o * grain f ≤ slack f * 2 ^ 116 → Near (bits f) (powerN f neg z) (E neg a b)
+    → z * (N * b) ≤ 2 ^ 116 * a + o * b → o * grain f ≤ slack f * 2 ^ 116 → Near (powerBits f) (powerN f neg z) (E neg a b)
 unfolding powerN
 power-is-near f neg a b z o zb zl lo hi fits =
     let Y : ℕ = biased neg z in
@@ -115,7 +115,7 @@ power-is-near f neg a b z o zb zl lo hi fits =
     )
 
 -- ---- exp
-turned : (f : Format) (s : Bool) (a b : ℕ) → zero < b → a ≤ reach f * b → Near (bits f) (powerN f s (turns f a b)) (E s a b)
+turned : (f : Format) (s : Bool) (a b : ℕ) → zero < b → a ≤ reach f * b → Near (powerBits f) (powerN f s (turns f a b)) (E s a b)
 turned f s a b z l =
     power-is-near f s a b (turns f a b) (off f) z (turns-lt f a b z l) (turns-lo f a b z l)
     (omega (arith, turns-hi f a b)) (within f .0)
@@ -125,4 +125,4 @@ unfolding expDef
 exp-near f s m e k l =
     let a : ℕ = m * up e in
     let b : ℕ = down e in
-    subst (λ (y : Float). Near (powerBits f) y (E s a b)) (sym (power-is f s (turns f a b))) (looser f (powerN f s (turns f a b)) (E s a b) (turned f s a b (down-pos e) l))
+    subst (λ (y : Float). Near (powerBits f) y (E s a b)) (sym (power-is f s (turns f a b))) (turned f s a b (down-pos e) l)

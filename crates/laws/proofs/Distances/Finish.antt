@@ -34,26 +34,14 @@ below x e c l v W n m r r' g g' p p' z y i hr hg t =
     (simp ac (simp ac at (mul-le-mul-right (l * r' * e * p) hg))) (le-trans {m = c * e * (m * p * W * r * g)}
     (simp ac (simp ac at (mul-le-mul-right (e * m * p * g) hr))) (le-of-eq (sym (simp ac (simp ac at (ap (λ (k : ℕ). k * (m * p * W * r * g)) i)))))))) (mul-pos z y)
 
--- ---- what is promised of the power: K4's distance in double, and document 01's
-abbrev pub bits : Format → ℕ
-bits binary32 = 23
-bits binary64 = 50
-
-pub looser : (f : Format) (y : Float) (q : Frac) → Near (bits f) y q → Near (powerBits f) y q
-looser binary32 y q h = h
-looser binary64 (fin false m e) q h = (omega (arith, h .0), omega (arith, h .1))
-looser binary64 (fin true m e) q h = h
-looser binary64 (inf s) q h = h
-looser binary64 nan q h = h
-
 -- M * 2 ^ K / 2 ^ 2110 within most / grain of q
 abbrev pub CoreNear : Format → (K M : ℕ) → Frac → Type 0
 CoreNear f K M q =
     (M * 2 ^ K * q .den * grain f ≤ q .num * 2 ^ 2110 * (grain f + most f)) × (q .num * 2 ^ 2110 * (grain f - most f) ≤ M * 2 ^ K * q .den * grain f)
 
 -- both distances together are within the promise
-total : (f : Format) → ((2 ^ prec f + 1) * (grain f + most f) * 2 ^ bits f ≤ 2 ^ prec f * grain f * (2 ^ bits f + 1))
-    × (2 ^ prec f * grain f * (2 ^ bits f - 1) ≤ (2 ^ prec f - 1) * (grain f - most f) * 2 ^ bits f)
+total : (f : Format) → ((2 ^ prec f + 1) * (grain f + most f) * 2 ^ powerBits f ≤ 2 ^ prec f * grain f * (2 ^ powerBits f + 1))
+    × (2 ^ prec f * grain f * (2 ^ powerBits f - 1) ≤ (2 ^ prec f - 1) * (grain f - most f) * 2 ^ powerBits f)
 total binary32 = (lit≤ tt, lit≤ tt)
 total binary64 = (lit≤ tt, lit≤ tt)
 
@@ -101,16 +89,16 @@ module _ (f : Format) (K M : ℕ) (lo : 2 ^ 62 ≤ M) (hi : M < 2 ^ 63) (a : 204
       subst (λ (y : Float). HasValue y false kept (2 ^ low f)) (sym (at-mid f K M a (le-of-lt b)))
       (kept-value f false (M * 2 ^ K) (2 ^ 2110) (pow-pos 2110) normal under)
 
-  pub finish-near : (q : Frac) → CoreNear f K M q → Near (bits f) (finishN f K M) q
+  pub finish-near : (q : Frac) → CoreNear f K M q → Near (powerBits f) (finishN f K M) q
   finish-near q h = go (finishN f K M) value
     where
-      go : (y : Float) → HasValue y false kept (2 ^ low f) → Near (bits f) y q
+      go : (y : Float) → HasValue y false kept (2 ^ low f) → Near (powerBits f) y q
       go nan v = absurd v
       go (inf s) v = absurd v
       go (fin true m e) v = absurd (true≢false (v .0))
       go (fin false m e) v = (
-        over (m * up e) (down e) kept (2 ^ low f) (M * 2 ^ K) (2 ^ 2110) (q .num) (q .den) (2 ^ prec f) (2 ^ prec f + 1) (grain f) (grain f + most f) (2 ^ bits f)
-            (2 ^ bits f + 1) (mul-pos (pow-pos (low f)) (pow-pos 2110)) (mul-pos (pow-pos (prec f)) (grain-pos f)) (v .1) near-up (h .0) (total f .0),
-        below (m * up e) (down e) kept (2 ^ low f) (M * 2 ^ K) (2 ^ 2110) (q .num) (q .den) (2 ^ prec f) (2 ^ prec f - 1) (grain f) (grain f - most f) (2 ^ bits f)
-            (2 ^ bits f - 1) (mul-pos (pow-pos (low f)) (pow-pos 2110)) (mul-pos (pow-pos (prec f)) (grain-pos f)) (v .1) near-down (h .1) (total f .1),
+        over (m * up e) (down e) kept (2 ^ low f) (M * 2 ^ K) (2 ^ 2110) (q .num) (q .den) (2 ^ prec f) (2 ^ prec f + 1) (grain f) (grain f + most f) (2 ^ powerBits f)
+            (2 ^ powerBits f + 1) (mul-pos (pow-pos (low f)) (pow-pos 2110)) (mul-pos (pow-pos (prec f)) (grain-pos f)) (v .1) near-up (h .0) (total f .0),
+        below (m * up e) (down e) kept (2 ^ low f) (M * 2 ^ K) (2 ^ 2110) (q .num) (q .den) (2 ^ prec f) (2 ^ prec f - 1) (grain f) (grain f - most f) (2 ^ powerBits f)
+            (2 ^ powerBits f - 1) (mul-pos (pow-pos (low f)) (pow-pos 2110)) (mul-pos (pow-pos (prec f)) (grain-pos f)) (v .1) near-down (h .1) (total f .1),
       )

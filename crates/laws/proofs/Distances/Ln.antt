@@ -8,7 +8,7 @@ use native.Mathlib.Omega.{arith}
 use lib.Dec.{T, leb, leb→le, nleb→lt, lit≤}
 use lib.IntN.{ℤ, pos, natAbs}
 use lib.Pow.{pow-pos, pow-add, pow-mono, pow-lt}
-use lib.Ieee.{Float, nan, inf, fin, Format, binary32, binary64, prec, emax, low, size, up, down, round, fits, isNan}
+use lib.Ieee.{Float, nan, inf, fin, Format, binary32, binary64, prec, emax, low, size, up, down, round, isNan}
 use lib.Ieee.Exact.{HasValue}
 use lib.Ieee.Nearest.{closest}
 use lib.Ieee.Scale.{normal-of-fraction}
@@ -19,30 +19,11 @@ use Rattle.kernels.specs.Kernels.{lnDef}
 use Rattle.soft.proofs.Rounding.Pattern.{round-not-nan}
 use Rattle.soft.proofs.Rounding.Place.{round-none}
 use Rattle.soft.proofs.Rounding.Relative.{kept-up, kept-down, kept-value}
-use Rattle.laws.specs.Distances.{apart, Close, LnClose, LnOne, LnRefuses}
+use Rattle.laws.specs.Distances.{apart, Close, logBits, absBits, LnClose, LnOne, LnRefuses}
 use Rattle.laws.proofs.Distances.logarithm.Near.{L-den-pos}
 use Rattle.laws.proofs.Distances.logarithm.Pairs.{Away, absolute, relative}
 use Rattle.laws.proofs.Distances.logarithm.Size.{digits-below, L-size}
 use Rattle.laws.proofs.Distances.logarithm.Joined.{log-near}
-
--- ---- Close, with the absolute part free: within 2 ^ -p |q| + 2 ^ -r
-abbrev pub Closer : (p r : ℕ) → Float → Signed → Type 0
-Closer p r nan q = ⊥
-Closer p r (inf s) q = ⊥
-Closer p r (fin s m e) q =
-    let x = m * up e * q .size .den in
-    let v = q .size .num * down e in
-    let d = q .size .den * down e in
-    apart s x (q .negative) v * 2 ^ (p + r) ≤ v * 2 ^ r + d * 2 ^ p
-
--- 2 ^ -23 and 2 ^ -48, 2 ^ -52 and 2 ^ -60
-abbrev pub lnBits : Format → ℕ
-lnBits binary32 = 23
-lnBits binary64 = 52
-
-abbrev pub lnParts : Format → ℕ
-lnParts binary32 = 48
-lnParts binary64 = 60
 
 -- ---- numbers alone: x / e the result, g / t the whole logarithm, v / w the exact one, k = 2 ^ prec
 less-by : (a b c k : ℕ) → a * k ≤ b * k + c → (a - b) * k ≤ c
@@ -93,8 +74,8 @@ carry-down x c e g l t p r z h k = le-of-mul-le-mul-right {k = l} (omega (arith,
 
 -- ---- the room that is left
 pub record Roomy (f : Format) : Type 0 where
-  pub relates : (2 ^ logUnits f + relative f * (2 ^ prec f + 1)) * 2 ^ lnBits f ≤ 2 ^ logUnits f * 2 ^ prec f
-  pub absolves : absolute f * (2 ^ prec f + 1) * 2 ^ lnParts f ≤ 2 ^ logUnits f * 2 ^ prec f
+  pub relates : (2 ^ logUnits f + relative f * (2 ^ prec f + 1)) * 2 ^ logBits f ≤ 2 ^ logUnits f * 2 ^ prec f
+  pub absolves : absolute f * (2 ^ prec f + 1) * 2 ^ absBits f ≤ 2 ^ logUnits f * 2 ^ prec f
   pub normal : prec f - 1 + logUnits f ≤ low f
   pub size : 1075 * 2 ^ logUnits f + absolute f + 1075 * relative f ≤ 2 ^ 11 * 2 ^ logUnits f
   pub ends : low f + 12 < low f + suc (emax f)
@@ -126,8 +107,8 @@ module _ (f : Format) (s : Bool) (g : ℕ) (q : Signed) (den : zero < q .size .d
 
   -- of a result x / e with g's sign that lies within 2 ^ -prec of g / t
   conclude : (r : Bool) (n : ℕ) (d : ℤ) → r ≡ s → n * up d * t * k ≤ g * down d * (k + 1) → g * down d * (k - 1) ≤ n * up d * t * k
-      → Closer (lnBits f) (lnParts f) (fin r n d) q
-  conclude r n d rs hu hd = rw (rs, pow-add 2 (lnBits f) (lnParts f)) (go near)
+      → Close (logBits f) (absBits f) (fin r n d) q
+  conclude r n d rs hu hd = rw (rs, pow-add 2 (logBits f) (absBits f)) (go near)
     where
       x : ℕ
       x = n * up d * w
@@ -135,25 +116,25 @@ module _ (f : Format) (s : Bool) (g : ℕ) (q : Signed) (den : zero < q .size .d
       y : ℕ
       y = v * down d
 
-      room : (D : ℕ) → D * (t * k) ≤ y * (t + b * (k + 1)) + a * (k + 1) * (w * down d) → D * (2 ^ lnBits f * 2 ^ lnParts f) ≤ y * 2 ^ lnParts f + w * down d * 2 ^ lnBits f
+      room : (D : ℕ) → D * (t * k) ≤ y * (t + b * (k + 1)) + a * (k + 1) * (w * down d) → D * (2 ^ logBits f * 2 ^ absBits f) ≤ y * 2 ^ absBits f + w * down d * 2 ^ logBits f
       room D h =
-          settle D v (down d) w (t + b * (k + 1)) (a * (k + 1)) (t * k) (2 ^ lnBits f) (2 ^ lnParts f) h (roomy f .relates) (roomy f .absolves)
+          settle D v (down d) w (t + b * (k + 1)) (a * (k + 1)) (t * k) (2 ^ logBits f) (2 ^ absBits f) h (roomy f .relates) (roomy f .absolves)
           (mul-pos (pow-pos (logUnits f)) (pow-pos (prec f)))
 
       back : (p : ℕ) → zero < p → p ≡ p - 1 + 1
       back p h = omega arith
 
-      go : Away t a b s g q → apart s x (q .negative) y * (2 ^ lnBits f * 2 ^ lnParts f) ≤ y * 2 ^ lnParts f + w * down d * 2 ^ lnBits f
+      go : Away t a b s g q → apart s x (q .negative) y * (2 ^ logBits f * 2 ^ absBits f) ≤ y * 2 ^ absBits f + w * down d * 2 ^ logBits f
       go (inl (same, sides)) =
           rw same
-          (both x y (2 ^ lnBits f * 2 ^ lnParts f) (y * 2 ^ lnParts f + w * down d * 2 ^ lnBits f) (room (x - y) (up-go (n * up d) (down d) g v w a b t k hu (sides .0)))
+          (both x y (2 ^ logBits f * 2 ^ absBits f) (y * 2 ^ absBits f + w * down d * 2 ^ logBits f) (room (x - y) (up-go (n * up d) (down d) g v w a b t k hu (sides .0)))
           (room (y - x) (down-go (n * up d) (down d) g v w a b t k (k - 1) hd (sides .1) (back k (pow-pos (prec f))))))
       go (inr (other, sum)) = rw other (room (x + y) (omega (arith, hu, sum, mul-le-mul-right w hu, mul-le-mul-right ((down d) * (k + 1)) sum)))
 
   -- nothing to round
-  at-zero : g ≡ 0 → Closer (lnBits f) (lnParts f) (round f s g t) q
+  at-zero : g ≡ 0 → Close (logBits f) (absBits f) (round f s g t) q
   at-zero z =
-      subst (λ (y : Float). Closer (lnBits f) (lnParts f) y q) (sym (ap (λ (x : ℕ). round f s x t) z ∙ round-none f s t (pow-pos (logUnits f))))
+      subst (λ (y : Float). Close (logBits f) (absBits f) y q) (sym (ap (λ (x : ℕ). round f s x t) z ∙ round-none f s t (pow-pos (logUnits f))))
       (conclude s 0 (pos 0) refl (none t k (g * 1 * (k + 1))) (rw z (none 1 (k - 1) (0 * 1 * t * k))))
     where
       none : (t k y : ℕ) → 0 * 1 * t * k ≤ y
@@ -195,11 +176,11 @@ module _ (f : Format) (s : Bool) (g : ℕ) (q : Signed) (den : zero < q .size .d
       fit c g l t p zt zp h m = le-of-mul-le-mul-right {k = t} (le-trans (twice c g l t p zp h) (omega (arith, mul-le-mul-right l m))) zt
 
   -- one rounding
-  at-more : zero < g → Closer (lnBits f) (lnParts f) (round f s g t) q
+  at-more : zero < g → Close (logBits f) (absBits f) (round f s g t) q
   unfolding kept
   at-more h = go (round f s g t) (kept-value f s g t (pow-pos (logUnits f)) (normal h) (small h))
     where
-      go : (y : Float) → HasValue y s kept (2 ^ low f) → Closer (lnBits f) (lnParts f) y q
+      go : (y : Float) → HasValue y s kept (2 ^ low f) → Close (logBits f) (absBits f) y q
       go nan h' = absurd h'
       go (inf r) h' = absurd h'
       go (fin r n d) h' =
@@ -207,38 +188,15 @@ module _ (f : Format) (s : Bool) (g : ℕ) (q : Signed) (den : zero < q .size .d
           (carry-up (n * up d) kept (down d) g (2 ^ low f) t k (k + 1) (pow-pos (low f)) (h' .1) (kept-up f s g t (pow-pos (logUnits f)) (normal h)))
           (carry-down (n * up d) kept (down d) g (2 ^ low f) t k (k - 1) (pow-pos (low f)) (h' .1) (kept-down f s g t (pow-pos (logUnits f)) (normal h)))
 
-  rounded : Closer (lnBits f) (lnParts f) (round f s g t) q
+  rounded : Close (logBits f) (absBits f) (round f s g t) q
   rounded = elim (eq-zero-or-pos g) [ inl z ↦ at-zero z | inr h ↦ at-more h ]
 
 -- ---- ln
-pub ln-closer : (f : Format) (m : ℕ) (e : ℤ) → T (fits f (fin false (suc m) e)) → Closer (lnBits f) (lnParts f) (lnDef f (fin false (suc m) e)) (L (suc m) e)
+pub ln-close : (f : Format) → LnClose f
 unfolding lnDef
-ln-closer f m e k =
+ln-close f m e k =
     let z = logarithm f (suc m) e in
     rounded f (below0 z) (natAbs z) (L (suc m) e) (L-den-pos (suc m) e (zero-lt-suc m)) (L-size f m e k) (log-near f (suc m) e (zero-lt-suc m) (digits-below f m e k))
-
--- with fewer digits, p and 48 in place of p + i and 48 + j
-coarser : (D v d p r i j : ℕ) → zero < i → zero < j → D * (p * i * (r * j)) ≤ v * (r * j) + d * (p * i) → D * (p * r) ≤ v * r + d * p
-coarser D v d p r i j zi zj h = le-of-mul-le-mul-right {k = i * j} (omega (arith, h, mul-le-mul-left (v * (r * j)) zi, mul-le-mul-left (d * (p * i)) zj)) (mul-pos zi zj)
-
-weaken : (p r i j : ℕ) (y : Float) (q : Signed) → Closer (p + i) (r + j) y q → Closer p r y q
-weaken p r i j nan q h = h
-weaken p r i j (inf s) q h = h
-weaken p r i j (fin s m e) q h =
-    rw (pow-add 2 p r)
-    (coarser (apart s (m * up e * q .size .den) (q .negative) (q .size .num * down e)) (q .size .num * down e) (q .size .den * down e) (2 ^ p) (2 ^ r) (2 ^ i) (2 ^ j)
-    (pow-pos i) (pow-pos j)
-    (rw (pow-add 2 (p + i) (r + j), pow-add 2 p i, pow-add 2 r j) at h))
-
-close : (p : ℕ) (y : Float) (q : Signed) → Closer p 48 y q → Close p y q
-close p nan q h = h
-close p (inf s) q h = h
-close p (fin s m e) q h = h
-
-pub ln-close : (f : Format) → LnClose f
-ln-close binary32 m e k = close 23 (lnDef binary32 (fin false (suc m) e)) (L (suc m) e) (ln-closer binary32 m e k)
-ln-close binary64 m e k =
-    close 50 (lnDef binary64 (fin false (suc m) e)) (L (suc m) e) (weaken 50 48 2 12 (lnDef binary64 (fin false (suc m) e)) (L (suc m) e) (ln-closer binary64 m e k))
 
 -- ---- ln 1, and the domain
 pub ln-one : (f : Format) → LnOne f

@@ -18,7 +18,6 @@ use Rattle.kernels.proofs.Definitions.Cases.{powered-finite, at-most-16, below-
 use Rattle.kernels.proofs.Definitions.Natural.{powerN, power-is}
 use Rattle.laws.specs.Distances.{Near, powerBits, argument, reach, edge, ended, floatOne}
 use Rattle.laws.proofs.Distances.power.Near.{grain, slack}
-use Rattle.laws.proofs.Distances.Finish.{looser}
 use Rattle.laws.proofs.Distances.Exp.{far, power-is-near}
 use Rattle.laws.proofs.Distances.Ends.{power-zero, least, power-ends, one-below, under-power, power-number}
 use Rattle.laws.proofs.Distances.logarithm.Steps.{LogNear, lacking, stray}
@@ -76,9 +75,7 @@ module _ (f : Format) (l : ℤ) (q : Signed) (den : zero < q .size .den) (near :
   pow-near r =
       subst (λ (y : Float). Near (powerBits f) y (E (unlike (q .negative) t) a k)) (sym (at f l t n d))
       (subst (λ (b : Bool). Near (powerBits f) (powerN f s z) (E (unlike b t) a k)) (near .sign)
-      (looser f (powerN f s z) (E s a k)
-      (power-is-near f s a k z (spread f) k-pos (within z N k a (reach f) (2 ^ 116) (spread f) (far f * 2 ^ 52) k-pos high r (fits f .1))
-      low high (fits f .0))))
+      (power-is-near f s a k z (spread f) k-pos (within z N k a (reach f) (2 ^ 116) (spread f) (far f * 2 ^ 52) k-pos high r (fits f .1)) low high (fits f .0)))
 
   pub pow-ends : edge f * k ≤ a → powAt f l (fin t n d) ≡ ended (unlike (q .negative) t)
   pow-ends r =
