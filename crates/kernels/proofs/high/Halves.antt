@@ -24,6 +24,3 @@ hi-first a b h = le-of-mul-le-mul-right (le-trans (hi-le a b) (mul-le-mul-left a
 pub sum-fits : (a b : ℕ) → a < 2 ^ 64 → b < 2 ^ 64 → a / 2 ^ 32 * (b / 2 ^ 32) + a / 2 ^ 32 * (b % 2 ^ 32) / 2 ^ 32 + a % 2 ^ 32 * (b / 2 ^ 32) / 2 ^ 32 < 2 ^ 64
 unfolding hi
 sum-fits a b h k = lt-of-le-of-lt (hi-small a b h) k
-
-pub first-fits : (x y z : ℕ) → x + y + z < 2 ^ 64 → x + y < 2 ^ 64
-first-fits x y z h = omega arith

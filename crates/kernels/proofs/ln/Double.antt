@@ -17,8 +17,7 @@ use Rattle.soft.proofs.Rounding.Exponent.{read}
 use Rattle.table.specs.Exact.{N}
 use Rattle.table.specs.Whole.{restZ}
 use Rattle.kernels.specs.Kernels.{nearestOf}
-use Rattle.kernels.proofs.Definitions.Sizes.{natAbs-mul, natAbs-add}
-use Rattle.kernels.proofs.whole.Divide.{rest-lt}
+use Rattle.kernels.proofs.Definitions.Sizes.{natAbs-mul, natAbs-add, rest-lt}
 use Rattle.kernels.proofs.ln.Whole.{times-one, sum-times, times-sum, times-times, parts}
 use Rattle.kernels.proofs.ln.Value.{Holds, finer, cast-holds, mul-holds, add-is, add-holds}
 

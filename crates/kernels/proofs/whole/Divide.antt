@@ -11,7 +11,6 @@ use lib.Signed.{mag, shrZ}
 use lib.Ieee.Bits.{is-false}
 use lib.Ieee.{unlike}
 use Rattle.table.specs.Whole.{restZ, signed, below0}
-use Rattle.kernels.proofs.Definitions.Sizes as Sizes
 
 pub neg-is : (x : ℕ) → 0 < x → negℤ (pos x) ≡ negsuc (x - 1)
 neg-is zero h = absurd (not-suc-le-zero h)
@@ -38,9 +37,6 @@ whole (pos a) m h =
 whole (negsuc a) m h =
     let u = more a (a / m) m (a % m) (div-add-mod' a m) (mod-lt a h) in
     ap (λ (y : ℤ). negsuc a +ℤ negℤ y) (neg-is (suc (a / m) * m) (u .2)) ∙ sub-is (suc (suc (a / m) * m - 1)) (suc a) (u .0) ∙ ap pos (u .1)
-
-pub rest-lt : (z : ℤ) (m : ℕ) → 0 < m → restZ z m < m
-rest-lt z m h = Sizes.rest-lt z m h
 
 -- the quotient's part lies in a range that m divides
 pub part-lt : (z : ℤ) (m q H : ℕ) → 0 < m → q * m ≡ H → mag z < H → mag (shrZ z m *ℤ pos m) < H

@@ -13,7 +13,8 @@ use mir.Val.{Fits, SFits, toZ, ofZ}
 use mir.Facts.{toZ-ofZ, toZ-pos}
 use borrow.Author.Tests.{ltb-true}
 use Rattle.table.specs.Whole.{signed, restZ}
-use Rattle.kernels.proofs.whole.Divide.{whole, rest-lt, part-lt}
+use Rattle.kernels.proofs.Definitions.Sizes.{rest-lt}
+use Rattle.kernels.proofs.whole.Divide.{whole, part-lt}
 
 abbrev pub word : ℤ → ℤ
 word z = toZ w64 (ofZ w64 z)

@@ -8,7 +8,8 @@ use mir.Syntax.{w64}
 use mir.Val.{SFits}
 use mir.Facts.{toZ-ofZ}
 use Rattle.table.specs.Whole.{restZ}
-use Rattle.kernels.proofs.whole.Divide.{rest-lt, shr-twice}
+use Rattle.kernels.proofs.Definitions.Sizes.{rest-lt}
+use Rattle.kernels.proofs.whole.Divide.{shr-twice}
 use Rattle.kernels.proofs.whole.Words.{word, shifted, shift-fits, Rests, rests}
 use Rattle.kernels.proofs.whole.split.Statement.{statement}
 use Rattle.kernels.proofs.whole.split.Tie as tie
