@@ -34,7 +34,10 @@ pub fn memory_state_from_sm2_scalar(
 ) -> NextState
     ensures { λ r. ⌜ r ≡ sm2Scalar (now (w .entry)) «ease_factor» interval «sm2_retention» ⌝ }
 {
-    let good = both(both(is_finite(ease_factor), is_finite(interval)), is_finite(sm2_retention));
+    let good = both(
+        both(is_finite(ease_factor), is_finite(interval)),
+        is_finite(sm2_retention),
+    );
     let n = scalar_refusal(w, good);
     if n != 0 {
         return refused_state(n);
@@ -45,8 +48,5 @@ pub fn memory_state_from_sm2_scalar(
         return refused_state(14);
     }
     let state = held(raw);
-    NextState {
-        refusal: 0,
-        state,
-    }
+    NextState { refusal: 0, state }
 }

@@ -25,7 +25,12 @@ fn sm2_difficulty(w: &[f32; 21], ease_factor: f32, stability: f32, sm2_retention
 }
 
 // The stability is not clamped, here or later.
-pub fn memory_state_from_sm2(w: &[f32; 21], ease_factor: f32, interval: f32, sm2_retention: f32) -> MemoryState
+pub fn memory_state_from_sm2(
+    w: &[f32; 21],
+    ease_factor: f32,
+    interval: f32,
+    sm2_retention: f32,
+) -> MemoryState
     ensures { λ r. ⌜ r ≡ sm2Raw (now (w .entry)) «ease_factor» interval «sm2_retention» ⌝ }
 {
     let stability = sm2_stability(w, interval, sm2_retention);
