@@ -1,10 +1,10 @@
 -- All that is promised of exp less 1. Assumes nothing.
 use mathlib.Core.Path.{_≡_, refl, sym, ap, _∙_, subst}
-use mathlib.Core.Bool.{Bool, true, false, not, _&&_, cond}
+use mathlib.Core.Bool.{Bool, true, false, not, cond}
 use Prim.Native.Nat.{ℕ, zero, _+_, _*_, _^_, _≤_, _<_}
 use native.Mathlib.Nat.{le-trans, le-of-eq, le-of-lt, one-mul, mul-le-mul-right}
 use native.Mathlib.Omega.{arith}
-use borrow.Author.Tests.{le-ltb, lt-ltb}
+use borrow.Author.Tests.{le-ltb}
 use lib.Dec.{T, ltb, ltb→lt}
 use lib.IntN.{ℤ, pos}
 use lib.Ieee.{Float, nan, inf, fin, binary32, binary64, up, down, round, fits, isNan, neg, sum, add, sub, lt, ofBits}
@@ -16,7 +16,8 @@ use Rattle.soft.proofs.Rounding.Sum.{sum-is}
 use Rattle.soft.specs.Narrow.{narrowDef}
 use Rattle.soft.specs.inner.Cuts.{sumSign, sumSize}
 use Rattle.table.specs.Exact.{E, minusFrac}
-use Rattle.kernels.specs.Kernels.{TINY, tiny, one64, expDef, expm1Def}
+use Rattle.kernels.specs.Kernels.{tiny, one64, expDef, expm1Def}
+use Rattle.kernels.proofs.Definitions.Cases.{tiny-is}
 use Rattle.laws.specs.Distances.{Near, Close, EMinus, Minus}
 use Rattle.laws.proofs.Distances.Ends.{either, exp-refuses}
 use Rattle.laws.proofs.Distances.Exp.{exp-near}
@@ -25,24 +26,6 @@ use Rattle.laws.proofs.Distances.minus.Ends.{far-up, far-down}
 use Rattle.laws.proofs.Distances.minus.Exact.{E-most}
 use Rattle.laws.proofs.Distances.minus.Sides.{close-by}
 use Rattle.laws.proofs.Distances.minus.Tiny.{tiny-sides}
-
--- ---- the first line's test
-tiny-is : (s : Bool) (m : ℕ) (e : ℤ) → tiny (fin s m e) ≡ ltb (m * up e * 2 ^ 24) (1 * 1 * down e)
-unfolding lt neg ofBits
-tiny-is false m e = ap (λ (b : Bool). b && ltb (m * up e * 2 ^ 24) (1 * 1 * down e)) (lt-ltb 0 (1 * 1 * down e + m * up e * 2 ^ 24) (some (m * up e * 2 ^ 24) (down e) (down-pos e)))
-  where
-    some : (x d : ℕ) → 0 < d → 0 < 1 * 1 * d + x
-    some x d h = omega arith
-tiny-is true m e =
-    ap (λ (b : Bool). ltb (m * up e * 2 ^ 24) (1 * 1 * down e) && b) (lt-ltb 0 (m * up e * 2 ^ 24 + 1 * 1 * down e) (some (m * up e * 2 ^ 24) (down e) (down-pos e)))
-    ∙ and-true (ltb (m * up e * 2 ^ 24) (1 * 1 * down e))
-  where
-    some : (x d : ℕ) → 0 < d → 0 < x + 1 * 1 * d
-    some x d h = omega arith
-
-    and-true : (b : Bool) → (b && true) ≡ b
-    and-true true = refl
-    and-true false = refl
 
 -- ---- near E - 1
 less-one : (p q : ℕ) (y : Float) → zero < q → p ≤ 2 ^ 125 * q → Near 50 y (record { num = p; den = q }) → Close 23 48 (narrowDef binary32 (sub binary64 y one64)) (minusFrac p q q)
