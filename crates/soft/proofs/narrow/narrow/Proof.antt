@@ -36,7 +36,7 @@ narrowed x u k h e =
     ∙ of-value binary32 x (u .negative) (u .digits * 2 ^ u .places) (2 ^ 1074) (pow-pos 1074) (rw e (measured binary64 x (holds k) h))
 
 small : (x : Float) (u : Units) → fits binary64 x ≡ true → T (finite x) → u ≡ unitsDef binary64 x → (u .digits < 2 ^ 53) × (u .places < 2046)
-small x u k h e = rw e (digits-lt binary64 x (holds k) h, places-lt binary64 x (holds k) h)
+small x u k h e = rw e (digits-lt binary64 x, places-lt binary64 x (holds k) h)
 
 -- ---- what is not finite, by its comparison with 0
 abbrev zero : Float
