@@ -2,7 +2,7 @@
 // comparisons; their shifts are in `shifts`. Every function is total, and its contract is an equation of the numbers that
 // the words stand for (`valueOf`).
 ghost use mathlib.Core.Path.{_≡_};
-ghost use Prim.Native.Nat.{_+_, _-_, _*_, _%_, _^_};
+ghost use Prim.Native.Nat.{_+_, _-_, _*_, _/_, _%_, _^_};
 ghost use lib.Dec.{ltb};
 ghost use Rattle.soft.specs.Value.{valueOf};
 
@@ -11,8 +11,18 @@ pub struct Wide {
     pub low: u64,
 }
 
-// u * v whole. Written so that LLVM makes one multiplication of it: `low` is the wrapped sum of the
-// shifted products, since from `w1` it would multiply four times.
+// n where x is a difference below 0, so that its top bit is set, else 0.
+fn negative(x: u64, n: u64) -> u64
+    ensures { λ r. ⌜ r ≡ x / 2 ^ 63 * n ⌝ }
+{
+    let sign = x >> 63;
+    let mask = std::num::wrapping_sub_u64(0, sign);
+    mask & n
+}
+
+// u * v whole, by three half-width products: the middle column u1 * v0 + u0 * v1 is p0 + p2 + x * y, with x = u1 - u0 and
+// y = v0 - v1. `d` is the product of their low halves; what it lacks where a difference is below 0 concerns only `high`,
+// modulo 2^64.
 pub fn product(u: u64, v: u64) -> Wide
     ensures { λ r. ⌜ valueOf r ≡ u * v ⌝ }
 {
@@ -20,15 +30,21 @@ pub fn product(u: u64, v: u64) -> Wide
     let u1 = u >> 32;
     let v0 = v & 0xffff_ffff;
     let v1 = v >> 32;
-    let w0 = u0 * v0;
-    let p = u1 * v0;
-    let q = u0 * v1;
-    let t = p + (w0 >> 32);
-    let w1 = (t & 0xffff_ffff) + q;
-    let top = u1 * v1 + (t >> 32);
-    let high = top + (w1 >> 32);
-    let middle = std::num::wrapping_add_u64(p, q);
-    let low = std::num::wrapping_add_u64(middle << 32, w0);
+    let p0 = u0 * v0;
+    let p2 = u1 * v1;
+    let x = std::num::wrapping_sub_u64(u1, u0);
+    let y = std::num::wrapping_sub_u64(v0, v1);
+    let b = y & 0xffff_ffff;
+    let d = (x & 0xffff_ffff) * b;
+    let t = (p0 >> 32) + p2;
+    let w = (t & 0xffff_ffff) + p0;
+    let c = (w & 0xffff_ffff) + d;
+    let g = (t >> 32) + p2;
+    let e = (w >> 32) + (c >> 32);
+    let h = std::num::wrapping_add_u64(g, e);
+    let k = std::num::wrapping_sub_u64(h, negative(x, b));
+    let high = std::num::wrapping_sub_u64(k, negative(y, x));
+    let low = (c << 32) + (p0 & 0xffff_ffff);
     Wide { high, low }
 }
 

@@ -1,14 +1,17 @@
--- `wide::product` meets its contract: each half is that half of u * v. Assumes nothing.
+-- `wide::product` meets its contract: the columns with their carries, less what the signs count, are u * v. Assumes nothing.
 use mathlib.Core.Path.{_≡_, sym, ap, _∙_, subst}
 use Prim.Native.Nat.{ℕ, _+_, _*_, _/_, _%_, _^_, _<_}
-use native.Mathlib.Nat.{le-refl, le-of-lt, le-trans, le-of-eq, lt-of-le-of-lt, lt-of-lt-of-le, le-add-right, add-comm, add-le-add, add-lt-add-of-lt-of-le, suc-mul, mul-le-mul-left, mul-le-mul-right, mul-lt-mul-of-pos-left, div-le-of-le-mul, mul-suc}
+use native.Mathlib.Nat.{le-of-lt, le-trans, le-of-eq, lt-of-le-of-lt, lt-of-lt-of-le, mod-lt, add-comm, add-lt-add-of-lt-of-le, mul-le-mul-left, mul-le-mul-right, mul-suc}
+use native.Mathlib.Omega.{arith}
 use borrow.Author.Needs.{needs}
-use lib.Pow.{pow-pos, pow-add, shl-lt, shr-lt, split}
+use lib.Arith.{digits-lt}
+use lib.Pow.{pow-pos, pow-add, shl-lt, shr-lt, split, add-lt-pow}
 use lib.Bits.{bitAnd, and-mask, mask-lt}
 use mir.Syntax.{w64}
 use mir.Val.{Fits}
-use mir.Facts.{fits-le, fits-bits}
-use Rattle.soft.proofs.wide.Columns.{upper-digits, lower-digits, next}
+use mir.Facts.{fits-bits}
+use Rattle.soft.proofs.wide.Columns.{signed, halves}
+use Rattle.soft.proofs.wide.Shifts.{cut}
 use Rattle.soft.proofs.wide.product.Statement.{statement}
 use Rattle.soft.proofs.wide.product.Tie as tie
 
@@ -16,114 +19,154 @@ use Rattle.soft.proofs.wide.product.Tie as tie
 abbrev low : ℕ → ℕ
 low n = bitAnd n 0xffff_ffff
 
--- the program's `t`, with `lo` for how the low 32 bits of a number are taken
-abbrev middle-of : (lo : ℕ → ℕ) (a b : ℕ) → ℕ
-middle-of lo a b = a / 2 ^ 32 * lo b + lo a * lo b / 2 ^ 32
+-- the program's columns, its `g + e` and its `low`, with `lo` for how the low 32 bits of a number are taken
+abbrev first-of : (lo : ℕ → ℕ) (u v : ℕ) → ℕ
+first-of lo u v = lo u * lo v / 2 ^ 32 + u / 2 ^ 32 * (v / 2 ^ 32)
 
--- the program's `high`, and its `low`
-abbrev high-of : (lo : ℕ → ℕ) (a b : ℕ) → ℕ
-high-of lo a b = a / 2 ^ 32 * (b / 2 ^ 32) + middle-of lo a b / 2 ^ 32 + (lo (middle-of lo a b) + lo a * (b / 2 ^ 32)) / 2 ^ 32
+abbrev second-of : (lo : ℕ → ℕ) (u v : ℕ) → ℕ
+second-of lo u v = lo (first-of lo u v) + lo u * lo v
 
-abbrev low-of : (lo : ℕ → ℕ) (a b : ℕ) → ℕ
-low-of lo a b = ((a / 2 ^ 32 * lo b + lo a * (b / 2 ^ 32)) % 2 ^ 64 * 2 ^ 32 % 2 ^ 64 + lo a * lo b) % 2 ^ 64
+abbrev third-of : (lo : ℕ → ℕ) (u v x y : ℕ) → ℕ
+third-of lo u v x y = lo (second-of lo u v) + lo x * lo y
 
--- a mask of 32 ones takes the remainder by 2 ^ 32, so these are the halves of the product
-high-law : (a b : ℕ) → high-of low a b ≡ a * b / 2 ^ 64
-unfolding next
-high-law a b =
-    (λ i. high-of (λ (n : ℕ). and-mask n 32 i) a b)
-    ∙ sym (upper-digits (2 ^ 32) (a % 2 ^ 32) (a / 2 ^ 32) (b % 2 ^ 32) (b / 2 ^ 32) (pow-pos 32))
-    ∙ (λ i. split a 32 i * split b 32 i / 2 ^ 64)
+abbrev high-of : (lo : ℕ → ℕ) (u v x y : ℕ) → ℕ
+high-of lo u v x y = first-of lo u v / 2 ^ 32 + u / 2 ^ 32 * (v / 2 ^ 32) + (second-of lo u v / 2 ^ 32 + third-of lo u v x y / 2 ^ 32)
 
-low-law : (a b : ℕ) → low-of low a b ≡ a * b % 2 ^ 64
-low-law a b =
-    (λ i. low-of (λ (n : ℕ). and-mask n 32 i) a b)
-    ∙ lower-digits (2 ^ 32) (a % 2 ^ 32) (a / 2 ^ 32) (b % 2 ^ 32) (b / 2 ^ 32)
-    ∙ (λ i. split a 32 i * split b 32 i % 2 ^ 64)
+abbrev low-of : (lo : ℕ → ℕ) (u v x y : ℕ) → ℕ
+low-of lo u v x y = third-of lo u v x y * 2 ^ 32 % 2 ^ 64 + lo (lo u * lo v)
 
 -- a number of s bits times one of t bits has at most s + t bits
 mul-lt : {a b : ℕ} (s t : ℕ) → a < 2 ^ s → b < 2 ^ t → a * b < 2 ^ (s + t)
 mul-lt {a} s t ha hb = lt-of-le-of-lt (mul-le-mul-left a (le-of-lt hb)) (shl-lt s t ha)
 
-product-fits : {x y : ℕ} → x < 2 ^ 32 → y < 2 ^ 32 → Fits w64 (x * y)
-product-fits hx hy = fits-bits 64 tt (mul-lt 32 32 hx hy)
+product-fits : {a b : ℕ} → a < 2 ^ 32 → b < 2 ^ 32 → Fits w64 (a * b)
+product-fits ha hb = fits-bits 64 tt (mul-lt 32 32 ha hb)
 
--- the middle column: a product and the carry from the column below
-middle-fits : {x₁ x₀ y₀ : ℕ} → x₁ < 2 ^ 32 → x₀ < 2 ^ 32 → y₀ < 2 ^ 32 → Fits w64 (x₁ * y₀ + x₀ * y₀ / 2 ^ 32)
-middle-fits {x₁} {x₀} {y₀} h₁ h₀ l =
+-- a column: a product, and 32 bits more
+column-fits : {c a b : ℕ} → c < 2 ^ 32 → a < 2 ^ 32 → b < 2 ^ 32 → Fits w64 (c + a * b)
+column-fits {c} {a} {b} hc ha hb =
     fits-bits (32 + 32) tt
-    (lt-of-le-of-lt
-    (le-trans (add-le-add (le-refl (x₁ * y₀)) (div-le-of-le-mul (2 ^ 32) {m = x₀ * y₀} {n = y₀} (mul-le-mul-right y₀ (le-of-lt h₀))))
-    (le-trans (le-of-eq (sym (suc-mul x₁ y₀))) (mul-le-mul-right y₀ h₁)))
-    (lt-of-lt-of-le (mul-lt-mul-of-pos-left l (pow-pos 32)) (le-of-eq (sym (pow-add 2 32 32)))))
+    (lt-of-lt-of-le (add-lt-add-of-lt-of-le hc (mul-le-mul-right b (le-of-lt ha)))
+    (le-trans (le-of-eq (add-comm (2 ^ 32) (2 ^ 32 * b) ∙ sym (mul-suc (2 ^ 32) b))) (le-trans (mul-le-mul-left (2 ^ 32) hb) (le-of-eq (sym (pow-add 2 32 32))))))
 
--- the next column: the low 32 bits of the middle one, and a product
-next-fits : {c x₀ y₁ : ℕ} → c < 2 ^ 32 → x₀ < 2 ^ 32 → y₁ < 2 ^ 32 → Fits w64 (c + x₀ * y₁)
-next-fits {c} {x₀} {y₁} hc h₀ l =
-    fits-bits (32 + 32) tt
-    (lt-of-lt-of-le (add-lt-add-of-lt-of-le hc (mul-le-mul-right y₁ (le-of-lt h₀)))
-    (le-trans (le-of-eq (add-comm (2 ^ 32) (2 ^ 32 * y₁) ∙ sym (mul-suc (2 ^ 32) y₁))) (le-trans (mul-le-mul-left (2 ^ 32) l) (le-of-eq (sym (pow-add 2 32 32))))))
+low-lt : (u v x y : ℕ) → low-of low u v x y < 2 ^ 64
+low-lt u v x y =
+    subst (λ (n : ℕ). n + low (low u * low v) < 2 ^ 64) (sym (cut (third-of low u v x y) (2 ^ 32) (2 ^ 32) (pow-pos 32) (pow-pos 32)))
+    (digits-lt {q = third-of low u v x y % 2 ^ 32} {m = 2 ^ 32} {c = 2 ^ 32} (mod-lt (third-of low u v x y) (pow-pos 32)) (mask-lt (low u * low v) 32))
 
--- the upper half of a product of two numbers of 64 bits has 64 bits
-high-fits : (a b : ℕ) → a < 2 ^ 64 → b < 2 ^ 64 → Fits w64 (high-of low a b)
-high-fits a b ha hb = subst (λ (n : ℕ). Fits w64 n) (sym (high-law a b)) (fits-bits 64 tt (shr-lt 64 64 (mul-lt 64 64 ha hb)))
+-- the contract from what each call ensures
+abbrev Meets : (lo : ℕ → ℕ) → Type 0
+Meets lo =
+    (u v x y k r : ℕ) → u < 2 ^ 64 → v < 2 ^ 64 → x < 2 ^ 64 → y < 2 ^ 64 → r < 2 ^ 64
+    → (x + lo u) % 2 ^ 64 ≡ u / 2 ^ 32 → (y + v / 2 ^ 32) % 2 ^ 64 ≡ lo v
+    → (k + x / 2 ^ 63 * lo y) % 2 ^ 64 ≡ high-of lo u v x y % 2 ^ 64 → (r + y / 2 ^ 63 * x) % 2 ^ 64 ≡ k
+    → r * 2 ^ 64 + low-of lo u v x y ≡ u * v
 
-mul-w0 : tie.Need-mul-w0
-mul-w0 c = product-fits (mask-lt (c .args .u) 32) (mask-lt (c .args .v) 32)
+by-rest : Meets (λ n. n % 2 ^ 32)
+by-rest u v x y k r hu hv hx hy hr ex ey ek er =
+    let sx = signed (u / 2 ^ 32) (u % 2 ^ 32) x ex (mod-lt u (pow-pos 32)) (shr-lt 32 32 hu) hx in
+    let sy = signed (v % 2 ^ 32) (v / 2 ^ 32) y ey (shr-lt 32 32 hv) (mod-lt v (pow-pos 32)) hy in
+    ap (λ (n : ℕ). r * 2 ^ 64 + (n + u % 2 ^ 32 * (v % 2 ^ 32) % 2 ^ 32)) (cut (third-of (λ n. n % 2 ^ 32) u v x y) (2 ^ 32) (2 ^ 32) (pow-pos 32) (pow-pos 32))
+    ∙ halves (2 ^ 32) (u % 2 ^ 32) (u / 2 ^ 32) (v % 2 ^ 32) (v / 2 ^ 32) x (x % 2 ^ 32) (y % 2 ^ 32) (x / 2 ^ 63) (y / 2 ^ 63) k r (pow-pos 32) hr
+    (subst (λ (n : ℕ). n / 2 ^ 64 < 2 ^ 64) (λ i. sym (split u 32) i * sym (split v 32) i) (shr-lt 64 64 (mul-lt 64 64 hu hv)))
+    (sx .0) (sx .1) (sy .0) ek er
+    ∙ (λ i. split u 32 i * split v 32 i)
 
-mul-p : tie.Need-mul-p
-mul-p c = product-fits (shr-lt 32 32 (c .fits .u .fits)) (mask-lt (c .args .v) 32)
+-- a mask of 32 ones takes the remainder by 2 ^ 32
+by-mask : Meets low
+by-mask = subst (λ (lo : ℕ → ℕ). Meets lo) (λ i n. sym (and-mask n 32) i) by-rest
 
-mul-q : tie.Need-mul-q
-mul-q c = product-fits (mask-lt (c .args .u) 32) (shr-lt 32 32 (c .fits .v .fits))
+mul-p0 : tie.Need-mul-p0
+mul-p0 c = product-fits (mask-lt (c .args .u) 32) (mask-lt (c .args .v) 32)
+
+mul-p2 : tie.Need-mul-p2
+mul-p2 c = product-fits (shr-lt 32 32 (c .fits .u .fits)) (shr-lt 32 32 (c .fits .v .fits))
+
+wrapping-sub-u64-requires : tie.Need-wrapping-sub-u64-requires
+wrapping-sub-u64-requires c κs = search needs
+
+wrapping-sub-u64-requires-2 : tie.Need-wrapping-sub-u64-requires-2
+wrapping-sub-u64-requires-2 c κs = search needs
+
+mul-d : tie.Need-mul-d
+mul-d c = product-fits (mask-lt (c .before .wrapping-sub-u64 .result) 32) (mask-lt (c .wrapping-sub-u642 .result) 32)
 
 add-t : tie.Need-add-t
-add-t c = middle-fits (shr-lt 32 32 (c .fits .u .fits)) (mask-lt (c .args .u) 32) (mask-lt (c .args .v) 32)
+add-t c =
+    let s = c .before .before in
+    column-fits (shr-lt 32 32 (mul-lt 32 32 (mask-lt (s .args .u) 32) (mask-lt (s .args .v) 32))) (shr-lt 32 32 (s .fits .u .fits)) (shr-lt 32 32 (s .fits .v .fits))
 
-add-w1 : tie.Need-add-w1
-add-w1 c = next-fits (mask-lt (middle-of low (c .args .u) (c .args .v)) 32) (mask-lt (c .args .u) 32) (shr-lt 32 32 (c .fits .v .fits))
+add-w : tie.Need-add-w
+add-w c =
+    let s = c .before .before in
+    column-fits (mask-lt (first-of low (s .args .u) (s .args .v)) 32) (mask-lt (s .args .u) 32) (mask-lt (s .args .v) 32)
 
-mul-top : tie.Need-mul-top
-mul-top c = product-fits (shr-lt 32 32 (c .fits .u .fits)) (shr-lt 32 32 (c .fits .v .fits))
+add-c : tie.Need-add-c
+add-c c =
+    let s = c .before .before in
+    column-fits (mask-lt (second-of low (s .args .u) (s .args .v)) 32) (mask-lt (c .before .wrapping-sub-u64 .result) 32) (mask-lt (c .wrapping-sub-u642 .result) 32)
 
-add-top : tie.Need-add-top
-add-top c =
-    let u = c .args .u in
-    let v = c .args .v in
-    fits-le (le-add-right (u / 2 ^ 32 * (v / 2 ^ 32) + middle-of low u v / 2 ^ 32) ((low (middle-of low u v) + low u * (v / 2 ^ 32)) / 2 ^ 32))
-    (high-fits u v (c .fits .u .fits) (c .fits .v .fits))
+add-g : tie.Need-add-g
+add-g c =
+    let s = c .before .before in
+    column-fits (shr-lt 32 32 (add-t c .fits)) (shr-lt 32 32 (s .fits .u .fits)) (shr-lt 32 32 (s .fits .v .fits))
 
-add-high : tie.Need-add-high
-add-high c = high-fits (c .args .u) (c .args .v) (c .fits .u .fits) (c .fits .v .fits)
+add-e : tie.Need-add-e
+add-e c = fits-bits 33 tt (add-lt-pow 32 (shr-lt 32 32 (add-w c .fits)) (shr-lt 32 32 (add-c c .fits)))
 
 wrapping-add-u64-requires : tie.Need-wrapping-add-u64-requires
 wrapping-add-u64-requires c κs = search needs
 
-wrapping-add-u64-requires-2 : tie.Need-wrapping-add-u64-requires-2
-wrapping-add-u64-requires-2 c κs = search needs
+negative-requires : tie.Need-negative-requires
+negative-requires c κs = search needs
+
+wrapping-sub-u64-requires-3 : tie.Need-wrapping-sub-u64-requires-3
+wrapping-sub-u64-requires-3 c κs = search needs
+
+negative-requires-2 : tie.Need-negative-requires-2
+negative-requires-2 c κs = search needs
+
+wrapping-sub-u64-requires-4 : tie.Need-wrapping-sub-u64-requires-4
+wrapping-sub-u64-requires-4 c κs = search needs
+
+add-low : tie.Need-add-low
+add-low c =
+    let y = c .before .before .before .before .before in
+    let s = y .before .before in
+    fits-bits 64 tt (low-lt (s .args .u) (s .args .v) (y .before .wrapping-sub-u64 .result) (y .wrapping-sub-u642 .result))
 
 returns : tie.Need-returns
 returns c =
-    let add = c .before in
-    let s = add .before in
-    let u = s .args .u in
-    let v = s .args .v in
-    let l : c .wrapping-add-u642 .result ≡ u * v % 2 ^ 64 = c .wrapping-add-u642 .ensures
-    ∙ ap (λ (x : ℕ). (x * 2 ^ 32 % 2 ^ 64 + low u * low v) % 2 ^ 64) (add .wrapping-add-u64 .ensures) ∙ low-law u v in
-    (λ i. high-law u v i * 2 ^ 64 + l i) ∙ split (u * v) 64
+    let b = c .before in
+    let k = b .before in
+    let a = k .before in
+    let h = a .before in
+    let y = h .before in
+    let x = y .before in
+    let s = x .before in
+    by-mask (s .args .u) (s .args .v) (x .wrapping-sub-u64 .result) (y .wrapping-sub-u642 .result) (k .wrapping-sub-u643 .result) (c .wrapping-sub-u644 .result)
+    (s .fits .u .fits) (s .fits .v .fits) (omega arith) (omega arith) (omega arith) (x .wrapping-sub-u64 .ensures) (y .wrapping-sub-u642 .ensures)
+    (ap (λ (n : ℕ). (k .wrapping-sub-u643 .result + n) % 2 ^ 64) (sym (a .negative .ensures)) ∙ k .wrapping-sub-u643 .ensures ∙ h .wrapping-add-u64 .ensures)
+    (ap (λ (n : ℕ). (c .wrapping-sub-u644 .result + n) % 2 ^ 64) (sym (b .negative2 .ensures)) ∙ c .wrapping-sub-u644 .ensures)
 
 pub product-spec : {M : Type 1} → statement M
 product-spec =
     tie.close
     (tie.spec
-    mul-w0
-    mul-p
-    mul-q
+    mul-p0
+    mul-p2
+    wrapping-sub-u64-requires
+    wrapping-sub-u64-requires-2
+    mul-d
     add-t
-    add-w1
-    mul-top
-    add-top
-    add-high
+    add-w
+    add-c
+    add-g
+    add-e
     wrapping-add-u64-requires
-    wrapping-add-u64-requires-2
+    negative-requires
+    wrapping-sub-u64-requires-3
+    negative-requires-2
+    wrapping-sub-u64-requires-4
+    add-low
     returns)
