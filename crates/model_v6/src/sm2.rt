@@ -25,7 +25,8 @@ fn held(m: MemoryState) -> MemoryState
 }
 
 // 14 where the formula leaves no finite stability or no finite difficulty: both are asked before the clamp, since an infinite
-// difficulty would clamp to 1 or 10. A retention of 0 or below is among these, for it has no power.
+// difficulty would clamp to 1 or 10. A retention of 0 or below is among these, for it has no power, and one of 1 or above,
+// since no stability above 0 comes of it.
 pub fn memory_state_from_sm2_scalar(
     w: &[f32],
     ease_factor: f32,
