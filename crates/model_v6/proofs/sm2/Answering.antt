@@ -10,9 +10,14 @@ use Rattle.model_v6.specs.Answers.{scalarRefusal, refusedState, accepted
 use Rattle.model_v6.specs.Sm2.{sm2Raw}
 
 module _ (w : List Float) (ease interval retention : Float) (n : ℕ) (e : n ≡ scalarRefusal w ((finite ease && finite interval) && finite retention)) where
+  -- 1, 2 and 13 before 14
+  before-14 : (n ≡ 0 → ⊥) → sm2Refusal w ease interval retention ≡ n
+  unfolding sm2Refusal
+  before-14 h = rw (← e, ne-eqb _ 0 h)
+
   pub sm2-refused : (n ≡ 0 → ⊥) → refusedState n ≡ sm2Scalar w ease interval retention
-  unfolding sm2Refusal sm2Scalar
-  sm2-refused h = rw (← e, ne-eqb _ 0 h, ne-eqb _ 0 h)
+  unfolding sm2Scalar
+  sm2-refused h = rw (before-14 h, ne-eqb _ 0 h)
 
   pub sm2-tested :
       n ≡ 0 → (b : Bool) → b ≡ finiteMemory (sm2Raw w ease interval retention)
