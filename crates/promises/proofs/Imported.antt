@@ -1,6 +1,5 @@
 -- Decks from SM-2: which retentions are refused, and what an accepted card is given. The laws stand in laws/proofs/Values/Imports.antt. Assumes nothing.
 use mathlib.Core.Bool.{_&&_}
-use lib.Ieee.{Float}
 use lib.Ieee.Fits.{and-r}
 use lib.Ieee.Scale.{finite}
 use Rattle.soft.proofs.units.Value.{holds}

@@ -7,7 +7,7 @@ use Prim.Native.Nat.{ℕ, zero, suc, _+_, _-_, _*_, _/_, _^_, _≤_, _<_}
 use native.Mathlib.Nat.{zero-mul, zero-lt-suc, mul-pos}
 use native.Mathlib.Omega.{arith}
 use borrow.Author.Tests.{eqb-true, ltb-false, lt-ltb}
-use lib.Dec.{T, eqb, ltb, lt→ltb, eqb→eq, eqb·suc-zero, lit<}
+use lib.Dec.{T, eqb, ltb, lt→ltb, eqb·suc-zero, lit<}
 use lib.IntN.{ℤ, pos, negsuc, negℤ, _*ℤ_}
 use lib.Pow.{pow-pos}
 use lib.Signed.{shrZ}

@@ -1,13 +1,13 @@
 -- exp in double, less 1, rounded to single, for an exp that is within 2 ^ -50 of p / q: within 2 ^ -23 |p / q - 1| + 2 ^ -48 of p / q - 1. Assumes nothing.
-use mathlib.Core.Path.{_≡_, refl, sym, ap, _∙_, subst}
+use mathlib.Core.Path.{_≡_, sym, ap, _∙_, subst}
 use mathlib.Core.Bool.{Bool, true, false, cond}
 use mathlib.Core.Logic.{inl, inr}
-use Prim.Native.Nat.{ℕ, zero, suc, _+_, _-_, _*_, _^_, _≤_, _<_}
-use native.Mathlib.Nat.{le-trans, le-of-eq, le-of-lt, lt-of-le-of-lt, one-mul, mul-one, mul-pos, mul-le-mul-left, mul-le-mul-right, le-of-mul-le-mul-right}
+use Prim.Native.Nat.{ℕ, zero, _+_, _-_, _*_, _^_, _≤_, _<_}
+use native.Mathlib.Nat.{le-trans, le-of-eq, le-of-lt, lt-of-le-of-lt, one-mul, mul-one, mul-pos, mul-le-mul-right, le-of-mul-le-mul-right}
 use native.Mathlib.Omega.{arith}
 use borrow.Author.Tests.{le-ltb, lt-ltb}
-use lib.Dec.{T, ltb, lit<, lit≤}
-use lib.IntN.{ℤ, pos}
+use lib.Dec.{ltb, lit<, lit≤}
+use lib.IntN.{ℤ}
 use lib.Pow.{pow-pos}
 use lib.Ieee.{Float, nan, inf, fin, binary32, binary64, up, down, round, ofBits, neg, sum, add, sub}
 use lib.Ieee.Exact.{HasValue}

@@ -1,20 +1,20 @@
 -- exp less 1 at its ends: from 89 on exp in double is 2 ^ 128 or more, which is no single; from -89 on it is 2 ^ -127 at most, and 1 less it rounds to 1.
 -- Assumes nothing.
 use mathlib.Core.Path.{_≡_, refl, sym, ap, _∙_, subst}
-use mathlib.Core.Bool.{Bool, true, false, not, cond}
+use mathlib.Core.Bool.{Bool, true, false, cond}
 use mathlib.Core.Logic.{inl, inr}
-use Prim.Native.Nat.{ℕ, zero, suc, _+_, _-_, _*_, _/_, _^_, _≤_, _<_}
-use native.Mathlib.Nat.{le-trans, le-of-eq, le-of-lt, lt-of-lt-of-le, one-mul, mul-one, mul-pos, mul-le-mul-left, mul-le-mul-right, le-of-mul-le-mul-right, le-add-right, le-antisymm, mul-le-mul}
+use Prim.Native.Nat.{ℕ, zero, _+_, _-_, _*_, _/_, _^_, _≤_, _<_}
+use native.Mathlib.Nat.{le-trans, le-of-eq, le-of-lt, one-mul, mul-one, mul-pos, mul-le-mul-left, mul-le-mul-right, le-add-right, le-antisymm, mul-le-mul}
 use native.Mathlib.Omega.{arith}
 use borrow.Author.Tests.{le-ltb, lt-ltb}
-use lib.Dec.{T, ltb, eqb, eqb→eq, lit<, lit≤}
+use lib.Dec.{T, eqb, eqb→eq, lit<, lit≤}
 use lib.IntN.{ℤ, pos, negsuc}
 use lib.Pow.{pow-pos, pow-add, pow-mono, shl-lt}
-use lib.Ieee.{Float, nan, inf, fin, binary32, binary64, emax, up, down, round, fits, neg, add, sub, le, lt, eq, ofBits}
+use lib.Ieee.{Float, nan, inf, fin, binary32, binary64, up, down, round, fits, neg, add, sub, le, lt, eq, ofBits}
 use lib.Ieee.Exact.{HasValue}
 use lib.Ieee.Fits.{and-r, down-pos, round-fits}
 use lib.Ieee.Order.{round-mono}
-use lib.Ieee.Positive.{num, den, positive, between, le→cross, own-value}
+use lib.Ieee.Positive.{num, den, positive, between, le→cross}
 use Rattle.columns.proofs.scores.Settled.{unique}
 use Rattle.soft.specs.Narrow.{narrowDef}
 use Rattle.table.specs.Exact.{N}
@@ -23,7 +23,7 @@ use Rattle.kernels.specs.Power.{hi, power}
 use Rattle.kernels.specs.Kernels.{one64, turns, expDef}
 use Rattle.kernels.proofs.Definitions.Cases.{below-or}
 use Rattle.kernels.proofs.Definitions.Hi.{hi-ge}
-use Rattle.kernels.proofs.Definitions.Natural.{lift, biased, whole, finishN, powerN, at-low, at-high, at-mid, lt-or-ge, power-is}
+use Rattle.kernels.proofs.Definitions.Natural.{lift, whole, finishN, powerN, at-low, at-high, at-mid, lt-or-ge, power-is}
 use Rattle.laws.proofs.Distances.Ends.{quotient, past-three}
 use Rattle.laws.proofs.Distances.power.Near.{M, M-low, M-high}
 use Rattle.laws.proofs.Distances.minus.Away.{minus-one}

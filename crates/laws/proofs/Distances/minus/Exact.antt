@@ -1,9 +1,9 @@
 -- E on either side of 0: below 2 ^ 125 for an argument up to 86, and next to 0 near 1 ± a / b. Assumes nothing.
-use mathlib.Core.Path.{_≡_, refl, sym, ap, _∙_, subst}
+use mathlib.Core.Path.{_≡_, refl, sym, ap, _∙_}
 use mathlib.Core.Bool.{Bool, true, false}
 use mathlib.Core.List.{List, [], _∷_}
-use Prim.Native.Nat.{ℕ, zero, suc, _+_, _-_, _*_, _/_, _%_, _^_, _≤_, _<_}
-use native.Mathlib.Nat.{le-trans, le-of-eq, le-of-lt, one-mul, mul-one, mul-assoc, mul-pos, mul-le-mul, mul-le-mul-left, mul-le-mul-right, le-of-mul-le-mul-right, le-of-mul-le-mul-left, lt-of-mul-lt-mul-right, mul-lt-mul-of-pos-left, div-add-mod', mod-lt, div-mul-le-self, lt-div-mul-add, pow-succ', le-add-right, one-le-pow}
+use Prim.Native.Nat.{ℕ, zero, _+_, _-_, _*_, _/_, _%_, _^_, _≤_, _<_}
+use native.Mathlib.Nat.{le-trans, le-of-eq, le-of-lt, one-mul, mul-assoc, mul-pos, mul-le-mul, mul-le-mul-left, mul-le-mul-right, lt-of-mul-lt-mul-right, mul-lt-mul-of-pos-left, div-add-mod', mod-lt, div-mul-le-self, lt-div-mul-add, pow-succ'}
 use native.Mathlib.Omega.{arith}
 use lib.Dec.{lit<, lit≤}
 use lib.Pow.{pow-mono, pow-pos}
@@ -12,8 +12,7 @@ use Rattle.table.proofs.Exact.Poly.{h}
 use Rattle.table.proofs.Exact.Laws.{h-mono, pow-mul}
 use Rattle.table.proofs.Exact.Frac.{h-homog}
 use Rattle.table.proofs.Exact.Floor.{E-up, E-down}
-use Rattle.table.proofs.Exact.Near.{h-grows, P-one, P-den-pos}
-use Rattle.table.proofs.Exact.Sums.{sum-le, prod-le}
+use Rattle.table.proofs.Exact.Near.{h-grows, P-den-pos}
 use Rattle.table.proofs.Exact.Taylor.{P-num, P-den}
 use Rattle.table.proofs.Exact.Terms.{pcoef, f23}
 

@@ -1,13 +1,13 @@
 -- All that is promised of exp less 1. Assumes nothing.
-use mathlib.Core.Path.{_≡_, refl, sym, ap, _∙_, subst}
+use mathlib.Core.Path.{_≡_, refl, ap, _∙_}
 use mathlib.Core.Bool.{Bool, true, false, not, cond}
-use Prim.Native.Nat.{ℕ, zero, _+_, _*_, _^_, _≤_, _<_}
-use native.Mathlib.Nat.{le-trans, le-of-eq, le-of-lt, one-mul, mul-le-mul-right}
+use Prim.Native.Nat.{ℕ, zero, _*_, _^_, _≤_, _<_}
+use native.Mathlib.Nat.{le-trans, le-of-eq, le-of-lt, one-mul}
 use native.Mathlib.Omega.{arith}
 use borrow.Author.Tests.{le-ltb}
 use lib.Dec.{T, ltb, ltb→lt}
 use lib.IntN.{ℤ, pos}
-use lib.Ieee.{Float, nan, inf, fin, binary32, binary64, up, down, round, fits, isNan, neg, sum, add, sub, lt, ofBits}
+use lib.Ieee.{Float, nan, inf, fin, binary32, binary64, up, down, round, fits, isNan, neg, add, sub, lt, ofBits}
 use lib.Ieee.Bits.{is-false}
 use lib.Ieee.Fits.{down-pos, fits-widens}
 use lib.Ieee.Scale.{finite}

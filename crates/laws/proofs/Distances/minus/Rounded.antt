@@ -1,14 +1,14 @@
 -- Any fraction rounded, in the normal range or below it: within 2 ^ -prec of itself and one smallest value more; and a bound that keeps it from
 -- overflowing. Assumes nothing.
-use mathlib.Core.Path.{_≡_, sym, ap, _∙_, subst}
+use mathlib.Core.Path.{_≡_, sym, subst}
 use mathlib.Core.Bool.{Bool, false}
 use mathlib.Core.Logic.{inl, inr}
 use Prim.Native.Nat.{ℕ, zero, suc, _+_, _-_, _*_, _/_, _^_, _≤_, _<_}
 use native.Mathlib.Nat.{le-trans, le-of-eq, mul-one, mul-pos, mul-le-mul-left, mul-le-mul-right, le-of-mul-le-mul-right, le-add-right}
 use native.Mathlib.Omega.{arith}
-use lib.Dec.{lit<, lit≤}
+use lib.Dec.{lit≤}
 use lib.Pow.{pow-pos}
-use lib.Ieee.{Float, Format, binary32, binary64, prec, emax, low, size, round}
+use lib.Ieee.{Float, Format, binary32, binary64, prec, low, size, round}
 use lib.Ieee.Exact.{HasValue, units-val}
 use lib.Ieee.Fits.{round-is}
 use lib.Ieee.Nearest.{closest}

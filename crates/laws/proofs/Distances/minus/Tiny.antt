@@ -2,7 +2,7 @@
 use mathlib.Core.Path.{_≡_, refl, sym, ap, _∙_}
 use mathlib.Core.Bool.{Bool, true, false}
 use Prim.Native.Nat.{ℕ, zero, suc, _+_, _-_, _*_, _^_, _≤_, _<_}
-use native.Mathlib.Nat.{le-trans, le-of-eq, mul-assoc, mul-pos, mul-le-mul, mul-le-mul-left, mul-le-mul-right, le-of-mul-le-mul-right, le-of-mul-le-mul-left, zero-lt-suc}
+use native.Mathlib.Nat.{le-trans, le-of-eq, mul-assoc, mul-pos, mul-le-mul, mul-le-mul-left, mul-le-mul-right, le-of-mul-le-mul-right, zero-lt-suc}
 use native.Mathlib.Omega.{arith}
 use lib.Dec.{lit<, lit≤}
 use lib.Pow.{pow-add}
@@ -11,9 +11,9 @@ use Rattle.table.proofs.Exact.Poly.{h}
 use Rattle.table.proofs.Exact.Floor.{E-down}
 use Rattle.table.proofs.Exact.Sums.{sum-le, prod-le}
 use Rattle.table.proofs.Exact.Taylor.{P-num, P-den}
-use Rattle.table.proofs.Exact.Terms.{pcoef, f23}
+use Rattle.table.proofs.Exact.Terms.{f23}
 use Rattle.laws.proofs.Distances.minus.Exact.{over, den, den-pos, P-two, two-P, P-one-more, P-half-more, P-no-more, E-at}
-use Rattle.laws.proofs.Distances.minus.Sides.{gap, room, Within, Sides}
+use Rattle.laws.proofs.Distances.minus.Sides.{gap, room, Sides}
 
 -- 2 ^ -48 alone is enough
 within : (x y p q d : ℕ) → x * 2 ^ 48 ≤ y * 2 ^ 48 + q * d → x * 2 ^ 71 ≤ y * 2 ^ 71 + room p q d
