@@ -33,7 +33,8 @@ enum {
     FSRS_KERNEL = 10,        /* a kernel's argument: shown as a NaN */
     FSRS_FILE = 11,          /* a malformed batch file */
     FSRS_FILLING_COUNT = 12, /* a weight set to fill has not 0, 17, 19 or 21 entries */
-    FSRS_SCALAR = 13         /* an argument of a formula or of a single step */
+    FSRS_SCALAR = 13,        /* an argument of a formula or of a single step */
+    FSRS_IMPORT = 14         /* a card from SM-2 gets no finite state, as by a retention not inside 0..1 */
 };
 
 enum {
@@ -45,10 +46,12 @@ enum {
     FSRS_FILE_ROWS = 512
 };
 
-/* ---- kernels: the answer is returned. exp, ln and pow give a NaN outside their domain (refusal 10) and nowhere else:
- * exp wants a finite argument; ln and pow a positive finite x; pow a y from -16 to 16. */
+/* ---- kernels: the answer is returned. exp, expm1, ln and pow give a NaN outside their domain (refusal 10) and nowhere
+ * else: exp and expm1 want a finite argument; ln and pow a positive finite x; pow a y from -16 to 16. */
 float fsrs_exp_f32(float x);
 double fsrs_exp_f64(double x);
+/* exp less 1, near also where x is next to 0. */
+float fsrs_expm1_f32(float x);
 float fsrs_ln_f32(float x);
 double fsrs_ln_f64(double x);
 float fsrs_pow_f32(float x, float y);
@@ -78,6 +81,10 @@ uint32_t fsrs_stability_short_term(const float *w, size_t w_len, float s, uint32
 /* The state after a review delta_t days after the last one. Any rating is taken, and clamped to 1-4. */
 uint32_t fsrs_next_state(const float *w, size_t w_len, float stability, float difficulty, float delta_t, uint32_t rating,
                          float *next_stability, float *next_difficulty);
+/* The state of a card from an SM-2 deck, by its ease factor, its interval in days, and the share of the deck's reviews
+ * that were recalled (0.9, not 90). The stability is not clamped. Also refusal 14. */
+uint32_t fsrs_memory_state_from_sm2(const float *w, size_t w_len, float ease_factor, float interval, float sm2_retention,
+                                    float *stability, float *difficulty);
 
 /* ---- one training step (analytic_v6.rs), at the row-th row of its history. Refusals 1, 2, 13, 6, 7. */
 /* The state after it, and its record: the state as given (stability, difficulty), day, rating, retrievability, stability

@@ -153,6 +153,14 @@ def half_away(f, x):
     return f.rounded(x >= f.sign, Fraction(up.numerator // up.denominator))
 
 
+def narrow(x):
+    """A double's pattern made that of a single."""
+    v = F64.of_bits(x)
+    if v == NAN:
+        return F32.nan
+    return v[1] * F32.sign + F32.inf if v[0] == "inf" else F32.rounded(v[0], F64.size(x))
+
+
 def less(f, x, y):
     """x < y: the patterns less their signs are in the order of their values, and no NaN is in that order."""
     if f.is_nan(x) or f.is_nan(y):

@@ -90,10 +90,20 @@ pub struct Formula {
     pub rating: u32,
 }
 
-pub const FORMULAS: [&str; 9] = [
+pub const FORMULAS: [&str; 10] = [
     "power_forgetting_curve", "next_interval", "init_difficulty", "mean_reversion", "next_difficulty",
-    "stability_after_success", "stability_after_failure", "stability_short_term", "next_state",
+    "stability_after_success", "stability_after_failure", "stability_short_term", "next_state", "memory_state_from_sm2",
 ];
+
+/// Its three singles are the ease factor, the interval and the retention.
+pub const FROM_SM2: usize = 9;
+
+impl Formula {
+    /// How many numbers it gives.
+    pub fn answers(&self) -> usize {
+        if self.number < 8 { 1 } else { 2 }
+    }
+}
 
 /// A kernel by its place in KERNELS, on the patterns of its arguments.
 #[derive(Clone)]
@@ -102,8 +112,10 @@ pub struct Kernel {
     pub args: [u64; 3],
 }
 
-pub const KERNELS: [&str; 10] = [
+/// Those with an even place are of singles.
+pub const KERNELS: [&str; 11] = [
     "exp_f32", "exp_f64", "ln_f32", "ln_f64", "pow_f32", "pow_f64", "fma_f32", "fma_f64", "round_f32", "round_f64",
+    "expm1_f32",
 ];
 
 #[derive(Clone)]

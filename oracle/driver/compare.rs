@@ -1,6 +1,6 @@
 // A call on both sides: ours, and what document 01 and the Rust's text have of it.
 use crate::analytic;
-use crate::cases::{plain_bits, Case, File, Kernel, Loss, Outcome, Part, FIELDS, WEIGHTS};
+use crate::cases::{plain_bits, Case, File, Formula, Kernel, Loss, Outcome, Part, FIELDS, WEIGHTS};
 use crate::face::{self, UNWRITTEN_DOUBLE, UNWRITTEN_SINGLE};
 use crate::files;
 use crate::model;
@@ -64,6 +64,15 @@ fn expected_file(c: &File, tally: &mut Tally) -> Outcome {
     outcome
 }
 
+// What is wrong with the arguments comes before what the text makes of them.
+fn expected_formula(c: &Formula, tally: &mut Tally) -> Outcome {
+    let refused = |refusal| Outcome { refusal, parts: vec![unwritten("answer", false, c.answers())] };
+    match rules::formula_refusal(c) {
+        0 => model::formula_outcome(c, tally).unwrap_or_else(|| refused(14)),
+        refusal => refused(refusal),
+    }
+}
+
 fn expected_filling(given: &[f32], tally: &mut Tally) -> Outcome {
     let filled = model::filled(given);
     if filled.is_some() {
@@ -75,7 +84,7 @@ fn expected_filling(given: &[f32], tally: &mut Tally) -> Outcome {
     }
 }
 
-// Rust's own mul_add and round. Of exp, ln and pow only where they refuse: their values have proofs and tools/kernels.
+// Rust's own mul_add and round. Of exp, expm1, ln and pow only where they refuse: their values have proofs and tools/kernels.
 fn expected_kernel(c: &Kernel, tally: &mut Tally) -> Outcome {
     let ([x, y, z], [u, v, t]) = (face::single_args(c), face::double_args(c));
     let (a, b) = if c.number % 2 == 0 { (x as f64, y as f64) } else { (u, v) };
@@ -116,13 +125,7 @@ pub fn expected(case: &Case, tally: &mut Tally) -> Outcome {
             0 => analytic::reverse_outcome(c, tally),
             refusal => Outcome { refusal, parts: vec![unwritten("gradients", true, 2), as_lent(&c.slots)] },
         },
-        Case::Formula(c) => match rules::formula_refusal(c) {
-            0 => model::formula_outcome(c, tally),
-            refusal => {
-                let n = if c.number == 8 { 2 } else { 1 };
-                Outcome { refusal, parts: vec![unwritten("answer", false, n)] }
-            }
-        },
+        Case::Formula(c) => expected_formula(c, tally),
     }
 }
 
@@ -176,7 +179,14 @@ fn caught<T>(f: impl FnOnce() -> T) -> Result<T, String> {
 
 /// Runs both sides: the refusal that is to be, and the difference, a panic of either side among them.
 pub fn run(case: &Case, tally: &mut Tally) -> (Option<u32>, Option<String>) {
-    let wanted = match caught(|| expected(case, tally)) {
+    let checked = || {
+        let wanted = expected(case, tally);
+        if let Case::Formula(c) = case {
+            rules::assert_import(c, wanted.refusal);
+        }
+        wanted
+    };
+    let wanted = match caught(checked) {
         Ok(x) => x,
         Err(text) => return (None, Some(format!("the Rust's side: {text}"))),
     };

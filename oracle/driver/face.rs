@@ -6,6 +6,7 @@ use crate::cases::{File, Formula, Kernel, Loss, Outcome, Part, Reverse, Step, FI
 extern "C" {
     pub fn fsrs_exp_f32(x: f32) -> f32;
     pub fn fsrs_exp_f64(x: f64) -> f64;
+    pub fn fsrs_expm1_f32(x: f32) -> f32;
     pub fn fsrs_ln_f32(x: f32) -> f32;
     pub fn fsrs_ln_f64(x: f64) -> f64;
     pub fn fsrs_pow_f32(x: f32, y: f32) -> f32;
@@ -26,6 +27,7 @@ extern "C" {
     fn fsrs_stability_after_failure(w: *const f32, w_len: usize, s: f32, r: f32, d: f32, stability: *mut f32) -> u32;
     fn fsrs_stability_short_term(w: *const f32, w_len: usize, s: f32, rating: u32, stability: *mut f32) -> u32;
     fn fsrs_next_state(w: *const f32, w_len: usize, stability: f32, difficulty: f32, delta_t: f32, rating: u32, next_stability: *mut f32, next_difficulty: *mut f32) -> u32;
+    fn fsrs_memory_state_from_sm2(w: *const f32, w_len: usize, ease_factor: f32, interval: f32, sm2_retention: f32, stability: *mut f32, difficulty: *mut f32) -> u32;
 
     fn fsrs_training_step(w: *const f32, w_len: usize, stability: f32, difficulty: f32, day: f32, rating: f32, row: usize, next_stability: *mut f32, next_difficulty: *mut f32, record: *mut f32) -> u32;
     fn fsrs_training_step_backward(w: *const f32, w_len: usize, stability: f32, difficulty: f32, day: f32, rating: f32, row: usize, g_s: f64, g_d: f64, g_r: f64, gw: *mut f64, gw_len: usize, grad_s: *mut f64, grad_d: *mut f64) -> u32;
@@ -175,7 +177,7 @@ pub fn reverse(c: &Reverse) -> Outcome {
 }
 
 pub fn formula(c: &Formula) -> Outcome {
-    let mut out = singles(if c.number == 8 { 2 } else { 1 });
+    let mut out = singles(c.answers());
     let (w, n, [x, y, z], rating) = (c.w.as_ptr(), c.w.len(), c.args, c.rating);
     let at = out.place(0);
     let refusal = unsafe {
@@ -188,7 +190,8 @@ pub fn formula(c: &Formula) -> Outcome {
             5 => fsrs_stability_after_success(w, n, x, y, z, rating, at),
             6 => fsrs_stability_after_failure(w, n, x, y, z, at),
             7 => fsrs_stability_short_term(w, n, x, rating, at),
-            _ => fsrs_next_state(w, n, x, y, z, rating, at, out.place(1)),
+            8 => fsrs_next_state(w, n, x, y, z, rating, at, out.place(1)),
+            _ => fsrs_memory_state_from_sm2(w, n, x, y, z, at, out.place(1)),
         }
     };
     Outcome { refusal, parts: vec![single_part("answer", out)] }
@@ -222,7 +225,8 @@ pub fn kernel(c: &Kernel) -> Outcome {
             6 => Part::singles("answer", [fsrs_fma_f32(x, y, z)]),
             7 => Part::doubles("answer", [fsrs_fma_f64(u, v, t)]),
             8 => Part::singles("answer", [fsrs_round_f32(x)]),
-            _ => Part::doubles("answer", [fsrs_round_f64(u)]),
+            9 => Part::doubles("answer", [fsrs_round_f64(u)]),
+            _ => Part::singles("answer", [fsrs_expm1_f32(x)]),
         }
     };
     Outcome { refusal: 0, parts: vec![part] }

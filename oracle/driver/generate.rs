@@ -1,6 +1,6 @@
 // Calls: first one that is accepted, every unread cell holding anything, and then perhaps faults.
 use crate::analytic;
-use crate::cases::{Case, Formula, Kernel, Loss, Reverse, Step, FIELDS, FORMULAS, KERNELS, WEIGHTS};
+use crate::cases::{Case, Formula, Kernel, Loss, Reverse, Step, FIELDS, FORMULAS, FROM_SM2, KERNELS, WEIGHTS};
 use crate::random::{Random, LEAST};
 use crate::rules::{COLUMNS_MAX, DIFFICULTY, ROWS_MAX, STABILITY};
 
@@ -310,7 +310,7 @@ fn around(r: &mut Random, (low, high): (f32, f32), is_any: bool) -> f32 {
         3 => high.next_down(),
         4 if is_any => r.pick(&[low.next_down(), high.next_up()]),
         5 if is_any => r.pick(&[0.0, -0.0, -1.0, f32::MAX, f32::MIN, LEAST, -LEAST, 1e30, -1e30]),
-        6 if is_any && r.one_in(2) => r.pick(&[f32::NAN, f32::INFINITY, f32::NEG_INFINITY]),
+        6 if is_any && r.one_in(2) => r.pick(&NONE),
         7..=9 if low >= 0.0 => r.spread(low, high),
         _ => r.even(low, high),
     }
@@ -324,9 +324,65 @@ fn any_day(r: &mut Random) -> f32 {
     }
 }
 
+const NONE: [f32; 3] = [f32::NAN, f32::INFINITY, f32::NEG_INFINITY];
+
+// Near the ease factor by which a card from SM-2 gets the difficulty d, where there is one.
+fn ease_for(w: &[f32], interval: f32, retention: f32, d: f32) -> f32 {
+    let power = |x: f32| x.powf(-1.0 / w[20]) - 1.0;
+    let stability = interval.max(0.0001) * power(0.9) / power(retention);
+    let ease = 1.0 + (11.0 - d) * w[8].exp() * stability.powf(-w[9]) * ((1.0 - retention) * w[10]).exp_m1();
+    if ease.is_finite() { ease } else { 2.5 }
+}
+
+fn ease(r: &mut Random, w: &[f32], interval: f32, retention: f32) -> f32 {
+    match r.below(16) {
+        0 | 1 => r.pick(&[1.0, 1f32.next_up(), 1f32.next_down(), 0.0, -0.0, -1.0]),
+        2 => r.pick(&[3e38, -3e38, f32::MAX, f32::MIN, 1e30, -1e30]),
+        3 if r.one_in(4) => r.pick(&NONE),
+        4 => r.spread(LEAST, 1e4),
+        5..=12 if w.len() == WEIGHTS => {
+            let d = if r.one_in(4) { r.pick(&[1.0, 10.0]) } else { r.even(1.0, 10.0) };
+            ease_for(w, interval, retention, d)
+        }
+        _ => r.even(1.3, 3.5),
+    }
+}
+
+// A card from SM-2: its ease factor, its interval and the retention of its deck.
+fn sm2_card(r: &mut Random, w: &[f32]) -> [f32; 3] {
+    let interval = match r.below(16) {
+        0 | 1 => r.pick(&[0.0, -0.0, LEAST, 0.0001, 0.0001f32.next_down(), 0.0001f32.next_up(), -1.0, -3e38]),
+        2 => r.pick(&[3e38, f32::MAX, 36500.0, 36500f32.next_up()]),
+        3 if r.one_in(4) => r.pick(&NONE),
+        4 | 5 => r.spread(LEAST, f32::MAX),
+        _ => r.between(1, 400) as f32,
+    };
+    let retention = match r.below(16) {
+        0 => r.pick(&[0.0, -0.0, -LEAST, -0.5, -3e38]),
+        1 => r.pick(&[1.0, 1f32.next_up(), 1.5, 90.0, 3e38]),
+        2 | 3 => r.pick(&[1f32.next_down(), LEAST, f32::MIN_POSITIVE, 1e-38, 1e-10, 0.9]),
+        4 if r.one_in(4) => r.pick(&NONE),
+        5 => r.spread(LEAST, 1.0),
+        _ => r.even(0.5, 1.0),
+    };
+    [ease(r, w, interval, retention), interval, retention]
+}
+
+// Weights at which a factor of its divisor vanishes or is 1.
+fn meet_sm2_edge(r: &mut Random, w: &mut [f32]) {
+    if w.len() == WEIGHTS && r.one_in(4) {
+        let (i, x) = r.pick(&[(10, 0.0), (10, -0.0), (10, 1e-15), (10, 1e-30), (9, 0.0), (9, 1.0), (8, -5.0), (20, 0.1)]);
+        w[i] = x;
+    }
+}
+
 fn formula(r: &mut Random) -> Formula {
-    let number = r.below(FORMULAS.len());
-    let w = some_weights(r);
+    // it has more edges than the others
+    let number = if r.one_in(4) { FROM_SM2 } else { r.below(FORMULAS.len()) };
+    let mut w = some_weights(r);
+    if number == FROM_SM2 {
+        meet_sm2_edge(r, &mut w);
+    }
     let (s, d) = (around(r, STABILITY, true), around(r, DIFFICULTY, true));
     let (unit, day) = (around(r, (0.0, 1.0), true), any_day(r));
     let retention = around(r, (0.0001, 0.9999), true);
@@ -338,6 +394,7 @@ fn formula(r: &mut Random) -> Formula {
         5 | 6 => [s, unit, d],
         7 => [s, 0.0, 0.0],
         8 => [s, d, day],
+        FROM_SM2 => sm2_card(r, &w),
         _ => [0.0; 3],
     };
     let rating = if r.one_in(10) { r.pick(&[0, 5, 6, u32::MAX, 1 << 31]) } else { r.between(1, 4) as u32 };

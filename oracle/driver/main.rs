@@ -31,6 +31,10 @@ mod inference {
     #![allow(dead_code)]
     include!(env!("INFERENCE"));
 }
+mod error {
+    #![allow(dead_code)]
+    include!(env!("ERROR"));
+}
 
 use cases::Case;
 use lines::{Reader, Stored};

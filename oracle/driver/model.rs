@@ -1,7 +1,7 @@
 // The Rust's scalar formulas and its filling, as their text stands, with document 01's added rules around them. run makes
-// the text: exp, ln and powf are ours (but not with --stock); mul_add and round are Rust's own.
+// the text: exp, exp_m1, ln and powf are ours (but not with --stock); mul_add and round are Rust's own.
 #![allow(dead_code, unused_imports)]
-use crate::cases::{Formula, Outcome, Part, FORMULAS};
+use crate::cases::{Formula, Outcome, Part, FORMULAS, FROM_SM2};
 use crate::inference::MemoryState;
 use crate::simulation::{D_MAX, D_MIN, S_MAX, S_MIN};
 use crate::tally::Tally;
@@ -9,7 +9,7 @@ use model_v6::*;
 
 // Its limits are `super::S_MIN` and the like.
 mod model_v6 {
-    use crate::kernels::Kernels;
+    use crate::kernels::{Kernels, LessOne};
     include!(env!("MODEL"));
 }
 
@@ -21,6 +21,32 @@ fn next_state(w: &[f32], stability: f32, difficulty: f32, day: f32, rating: u32)
     let state = MemoryState { stability, difficulty, stability_fast: stability };
     let next = next_state_scalar(w, state, plain_day(day), rating);
     [next.stability, next.difficulty]
+}
+
+fn from_sm2(w: &[f32], ease: f32, interval: f32, retention: f32) -> Option<[f32; 2]> {
+    memory_state_from_sm2_scalar(w, ease, interval, retention).ok().map(|q| [q.stability, q.difficulty])
+}
+
+// Why a card from SM-2 is refused, and where its stability lies.
+fn note_from_sm2(c: &Formula, answer: Option<&[f32]>, tally: &mut Tally) {
+    let [ease, interval, retention] = c.args;
+    let what = match answer {
+        None if retention <= 0.0 => "14, retention 0 or below",
+        None if retention >= 1.0 => "14, retention 1 or above",
+        None if c.w[10] == 0.0 => "14, weight 10 is 0",
+        None if ease.abs() > 1e30 => "14, a large ease factor",
+        None => "14, otherwise",
+        Some(q) if q[0] < S_MIN => "stability below 0.0001",
+        Some(q) if q[0] > S_MAX => "stability above 36500",
+        Some(_) => "stability from 0.0001 to 36500",
+    };
+    tally.branch(&format!("formula: memory_state_from_sm2, {what}"));
+    if answer.is_some() && interval < S_MIN {
+        tally.branch("formula: memory_state_from_sm2, interval below 0.0001");
+    }
+    if answer.is_some_and(|q| D_MIN < q[1] && q[1] < D_MAX) {
+        tally.branch("formula: memory_state_from_sm2, difficulty between 1 and 10");
+    }
 }
 
 // Which way the next state goes, and which answers lie at an end.
@@ -45,14 +71,18 @@ fn note(c: &Formula, answer: &[f32], tally: &mut Tally) {
     }
 }
 
-/// What an accepted call gives.
-pub fn formula_outcome(c: &Formula, tally: &mut Tally) -> Outcome {
+/// What a call gives whose arguments are good: nothing where the text has an error.
+pub fn formula_outcome(c: &Formula, tally: &mut Tally) -> Option<Outcome> {
     let answer = formula(c);
+    if c.number == FROM_SM2 {
+        note_from_sm2(c, answer.as_deref(), tally);
+    }
+    let answer = answer?;
     note(c, &answer, tally);
-    Outcome { refusal: 0, parts: vec![Part::singles("answer", answer)] }
+    Some(Outcome { refusal: 0, parts: vec![Part::singles("answer", answer)] })
 }
 
-fn formula(c: &Formula) -> Vec<f32> {
+fn formula(c: &Formula) -> Option<Vec<f32>> {
     let (w, [x, y, z]) = (&c.w[..], c.args);
     let rating = c.rating as usize;
     let answer = match c.number {
@@ -64,9 +94,10 @@ fn formula(c: &Formula) -> Vec<f32> {
         5 => stability_after_success_scalar(w, x, y, z, rating),
         6 => stability_after_failure_scalar(w, x, y, z),
         7 => stability_short_term_scalar(w, x, rating),
-        _ => return next_state(w, x, y, z, c.rating).to_vec(),
+        8 => return Some(next_state(w, x, y, z, c.rating).to_vec()),
+        _ => return from_sm2(w, x, y, z).map(Vec::from),
     };
-    vec![answer]
+    Some(vec![answer])
 }
 
 /// The set made 21, where the text takes its length.

@@ -1,5 +1,6 @@
-// Document 01's checks and their order, read from it alone: the number of the refusal, 0 where a call is accepted.
-use crate::cases::{Formula, Loss, Reverse, Step, FIELDS, WEIGHTS};
+// Document 01's checks and their order, read from it alone: the number of the refusal, 0 where a call is accepted. Of K1's 14,
+// which the text decides, only what is said of it besides.
+use crate::cases::{Formula, Loss, Reverse, Step, FIELDS, FROM_SM2, WEIGHTS};
 
 pub const BOX: [(f32, f32); WEIGHTS] = [
     (0.0001, 36500.0), (0.0001, 36500.0), (0.0001, 36500.0), (0.0001, 36500.0), (0.0, 20.0), (0.0, 4.0), (0.0, 6.0),
@@ -199,9 +200,16 @@ pub fn formula_refusal(c: &Formula) -> u32 {
         6 => is_in(a, STABILITY) && is_in(b, UNIT) && is_in(d, DIFFICULTY),
         7 => is_in(a, STABILITY) && is_rated,
         8 => a.is_finite() && b.is_finite() && is_day(d),
+        FROM_SM2 => a.is_finite() && b.is_finite() && d.is_finite(),
         _ => unreachable!(),
     };
     if is_good { 0 } else { 13 }
+}
+
+/// K1: 'a retention of 0 or below included'. With the port's kernels one of 1 or above is as well.
+pub fn assert_import(c: &Formula, refusal: u32) {
+    let is_retention = c.args[2] > 0.0 && c.args[2] < 1.0;
+    assert!(c.number != FROM_SM2 || is_retention || refusal != 0, "a retention that is not inside 0..1 is accepted");
 }
 
 /// 12, then 2; `filled` is the set made 21, where the length is one of the four.
@@ -213,10 +221,10 @@ pub fn filling_refusal(given: &[f32], filled: Option<&[f32]>) -> u32 {
     }
 }
 
-/// Whether exp, ln or pow take the arguments; where they do not (10) the answer is a NaN, and nowhere else.
+/// Whether exp, expm1, ln or pow take the arguments; where they do not (10) the answer is a NaN, and nowhere else.
 pub fn is_kernel_domain(number: usize, x: f64, y: f64) -> bool {
     match number {
-        0 | 1 => x.is_finite(),
+        0 | 1 | 10 => x.is_finite(),
         2 | 3 => x.is_finite() && x > 0.0,
         4 | 5 => x.is_finite() && x > 0.0 && (-16.0..=16.0).contains(&y),
         _ => true,

@@ -1,4 +1,4 @@
-// How far ours lies from the Rust's text over the standard library's exp, ln and powf. Here differences are expected.
+// How far ours lies from the Rust's text over the standard library's exp, exp_m1, ln and powf. Here differences are expected.
 use crate::cases::{record_cell, Case, Loss, Outcome, Part, WEIGHTS};
 use crate::compare;
 use crate::generate;
@@ -154,7 +154,7 @@ fn print(name: &str, d: Distances) {
 /// Slots start at +0.0, so that they hold the gradient alone.
 pub fn run(seed: u64, count: u64) {
     let mut kinds: BTreeMap<&'static str, [Distances; 2]> = BTreeMap::new();
-    let (mut refused, mut others) = (0, 0);
+    let (mut refused, mut others) = (0, BTreeMap::new());
     for i in 0..count {
         let mut case = generate::case(seed, i);
         match &mut case {
@@ -165,7 +165,7 @@ pub fn run(seed: u64, count: u64) {
         let [plain, flipped] = kinds.entry(case.name()).or_default();
         let before = plain.calls + flipped.calls;
         if !note(&case, plain, flipped) {
-            others += 1;
+            *others.entry(case.name()).or_insert(0) += 1;
         }
         refused += (plain.calls + flipped.calls == before) as u64;
     }
@@ -175,5 +175,9 @@ pub fn run(seed: u64, count: u64) {
         print(&format!("{name}, with a branch flipped"), flipped);
     }
     println!("calls with a branch flipped {flips}");
-    println!("refused {refused}; accepted on one side alone, or refused by another number, {others}");
+    let apart: u64 = others.values().sum();
+    println!("refused {refused}; accepted on one side alone, or refused by another number, {apart}");
+    for (name, n) in others {
+        println!("    {name} {n}");
+    }
 }

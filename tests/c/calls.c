@@ -10,7 +10,7 @@ enum { ROWS = 3, COLUMNS = 2, CELLS = ROWS * COLUMNS, HEADER = 40, FILE_ROOM = 4
 struct call {
     float w[FSRS_WEIGHTS];
     size_t w_len;
-    float stability, difficulty, retrievability, retention, day, rating;
+    float stability, difficulty, retrievability, retention, day, rating, ease;
     uint32_t whole_rating;
     size_t row;
     double g_s, g_d, g_r;
@@ -39,6 +39,7 @@ static struct call good(void) {
         .retention = 0.9f,
         .day = 4,
         .rating = 3,
+        .ease = 2.5f,
         .whole_rating = 3,
         .row = 1,
         .g_s = 1,
@@ -114,6 +115,10 @@ static uint32_t state(struct call *x) {
                            &x->answer_difficulty);
 }
 
+static uint32_t sm2(struct call *x) {
+    return fsrs_memory_state_from_sm2(x->w, x->w_len, x->ease, x->day, x->retention, &x->answer, &x->answer_difficulty);
+}
+
 static uint32_t step(struct call *x) {
     return fsrs_training_step(x->w, x->w_len, x->stability, x->difficulty, x->day, x->rating, x->row, &x->answer,
                               &x->answer_difficulty, x->record);
@@ -155,6 +160,7 @@ static uint32_t file(struct call *x) {
 enum {
     BOX = BIT(FSRS_WEIGHT_COUNT) | BIT(FSRS_WEIGHT_BOX),
     FORMULA = BOX | BIT(FSRS_SCALAR),
+    IMPORT = FORMULA | BIT(FSRS_IMPORT),
     STEP = FORMULA | BIT(FSRS_RATING) | BIT(FSRS_DAY),
     CARD = BOX | BIT(FSRS_SIZES) | BIT(FSRS_RATING) | BIT(FSRS_DAY) | BIT(FSRS_REVIEW),
     PREFIX = CARD | BIT(FSRS_EMPTY_PREFIX),
@@ -181,6 +187,7 @@ static const struct function functions[] = {
     {"stability_after_failure", failure, FORMULA},
     {"stability_short_term", short_term, FORMULA},
     {"next_state", state, FORMULA},
+    {"memory_state_from_sm2", sm2, IMPORT},
     {"training_step", step, STEP},
     {"training_step_backward", step_backward, STEP | SLOTS},
     {"batch_loss", batch, PREFIX},
@@ -299,8 +306,12 @@ static void prefix_empty(struct call *x) {
 }
 
 static void not_finite(struct call *x) {
-    x->stability = x->difficulty = INFINITY;
+    x->stability = x->difficulty = x->ease = INFINITY;
     x->whole_rating = 5;
+}
+
+static void retention_none(struct call *x) {
+    x->retention = 0;
 }
 
 static const struct {
@@ -322,6 +333,7 @@ static const struct {
     {FSRS_REVIEW, review_none},
     {FSRS_EMPTY_PREFIX, prefix_empty},
     {FSRS_SCALAR, not_finite},
+    {FSRS_IMPORT, retention_none},
 };
 
 static void try_faults(const struct function *f) {
@@ -348,6 +360,45 @@ static void refusals(void) {
     }
 }
 
+static void expect_import(float ease, float interval, float retention, uint32_t number) {
+    struct call x = good();
+    x.ease = ease;
+    x.day = interval;
+    x.retention = retention;
+    expect_refused("memory_state_from_sm2", sm2, &x, number);
+}
+
+static void imports_refused(void) {
+    const float beyond[] = {INFINITY, -INFINITY, NAN};
+    for (size_t i = 0; i < sizeof beyond / sizeof *beyond; i++) {
+        expect_import(beyond[i], 4, 0.9f, FSRS_SCALAR);
+        expect_import(2.5f, beyond[i], 0.9f, FSRS_SCALAR);
+        expect_import(2.5f, 4, beyond[i], FSRS_SCALAR);
+        /* 13 comes before 14 */
+        expect_import(beyond[i], 4, 0, FSRS_SCALAR);
+        expect_import(2.5f, beyond[i], 1, FSRS_SCALAR);
+    }
+    const float retentions[] = {0, -0.0f, -0x1p-149f, -0.5f, -3e38f, 1, 1 + 0x1p-23f, 1.5f, 90, 3e38f};
+    for (size_t i = 0; i < sizeof retentions / sizeof *retentions; i++) {
+        expect_import(2.5f, 4, retentions[i], FSRS_IMPORT);
+    }
+    /* the difficulty is infinite: clamped, it would be 1 and 10 */
+    expect_import(3e38f, 4, 0.9f, FSRS_IMPORT);
+    expect_import(-3e38f, 4, 0.9f, FSRS_IMPORT);
+    /* the divisor is 0 */
+    struct call x = good();
+    x.w[10] = 0;
+    expect_refused("weight 10 at 0", sm2, &x, FSRS_IMPORT);
+    /* the weights come first */
+    x = good();
+    x.retention = 0;
+    x.ease = NAN;
+    x.w[20] = 1.5f;
+    expect_refused("a weight, an ease and a retention", sm2, &x, FSRS_WEIGHT_BOX);
+    x.w_len = FSRS_WEIGHTS - 1;
+    expect_refused("20 weights, an ease and a retention", sm2, &x, FSRS_WEIGHT_COUNT);
+}
+
 /* ---- answers */
 
 static void kernels(void) {
@@ -360,6 +411,15 @@ static void kernels(void) {
     expect_single("exp_f32(-89)", fsrs_exp_f32(-89), 0);
     expect_double("exp_f64(710)", fsrs_exp_f64(710), INFINITY);
     expect_double("exp_f64(-710)", fsrs_exp_f64(-710), 0);
+    expect_single("expm1_f32(1)", fsrs_expm1_f32(1), single_of(0x3fdbf0a9));
+    expect_single("expm1_f32(89)", fsrs_expm1_f32(89), INFINITY);
+    expect_single("expm1_f32(-89)", fsrs_expm1_f32(-89), -1);
+    /* next to 0 the argument itself */
+    const float tiny[] = {0, 0x1p-149f, 0x1p-126f, 0x1p-54f, 0x1p-24f};
+    for (size_t i = 0; i < sizeof tiny / sizeof *tiny; i++) {
+        expect_single("expm1_f32, tiny", fsrs_expm1_f32(tiny[i]), tiny[i]);
+        expect_single("expm1_f32, -tiny", fsrs_expm1_f32(-tiny[i]), -tiny[i]);
+    }
     expect_single("ln_f32(1)", fsrs_ln_f32(1), 0);
     expect_double("ln_f64(1)", fsrs_ln_f64(1), 0);
     expect_single("pow_f32(1, 16)", fsrs_pow_f32(1, 16), 1);
@@ -381,6 +441,7 @@ static void kernels_refused(void) {
         if (i < 3) {
             expect_single("exp_f32 refused", fsrs_exp_f32(x), NAN);
             expect_double("exp_f64 refused", fsrs_exp_f64(x), NAN);
+            expect_single("expm1_f32 refused", fsrs_expm1_f32(x), NAN);
             expect_single("pow_f32 refused by y", fsrs_pow_f32(1, x), NAN);
             expect_double("pow_f64 refused by y", fsrs_pow_f64(1, x), NAN);
         }
@@ -424,6 +485,37 @@ static void formulas(void) {
     expect_answer("the next state on the same day", state, x, x.stability);
     state(&x);
     expect_single("its difficulty", x.answer_difficulty, x.difficulty);
+}
+
+static void expect_state(const char *name, struct call x, float s, float d) {
+    expect(sm2(&x) == FSRS_ACCEPTED, "%s: refused", name);
+    expect_single(name, x.answer, s);
+    expect_single(name, x.answer_difficulty, d);
+}
+
+/* Where the deck was recalled at 0.9 the stability is the interval, but for two roundings, which a power of 2 leaves out. */
+static void imports(void) {
+    struct call x = good(), y;
+    x.ease = 1;
+    expect_state("an ease of 1", x, x.day, 10);
+    x.ease = 1000;
+    expect_state("an ease of 1000", x, x.day, 1);
+    x.day = 65536;
+    expect_state("a stability that is not clamped", x, 65536, 1);
+    x.day = 0x1p-13f;
+    x.retention = 0.5f;
+    sm2(&x);
+    expect(x.answer > 0 && x.answer < 0.0001f, "a stability of %g was clamped", x.answer);
+    /* an interval below 0.0001 is 0.0001 */
+    x = good();
+    x.day = 0.0001f;
+    sm2(&x);
+    const float below[] = {0, -5, -3e38f, 0x1p-149f};
+    for (size_t i = 0; i < sizeof below / sizeof *below; i++) {
+        y = good();
+        y.day = below[i];
+        expect_state("a short interval", y, x.answer, x.answer_difficulty);
+    }
 }
 
 static void expect_step(const char *name, struct call x, float s, float d, float branch) {
@@ -643,9 +735,11 @@ static void files_refused(void) {
 
 int main(void) {
     refusals();
+    imports_refused();
     kernels();
     kernels_refused();
     formulas();
+    imports();
     steps();
     steps_backward();
     losses();

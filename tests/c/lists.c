@@ -123,6 +123,8 @@ static uint32_t formula(char letter, float *answer) {
         return fsrs_mean_reversion(w, w_len, x, y, answer);
     case 'D':
         return fsrs_next_difficulty(w, w_len, x, (uint32_t)a[1], answer);
+    case 'P':
+        return fsrs_memory_state_from_sm2(w, w_len, x, y, z, answer, answer + 1);
     default:
         return fsrs_next_state(w, w_len, x, y, z, (uint32_t)a[3], answer, answer + 1);
     }
@@ -133,9 +135,9 @@ static void study_line(char letter) {
         if (expect_refusal(fsrs_check_and_fill_parameters(w, w_len, lent.answers), words[0])) {
             expect_singles("weight", lent.answers, words + 1, FSRS_WEIGHTS);
         }
-    } else if (strchr("CISLTEMDN", letter)) {
+    } else if (strchr("CISLTEMDNP", letter)) {
         if (expect_refusal(formula(letter, lent.answers), words[4])) {
-            expect_singles("answer", lent.answers, words + 5, letter == 'N' ? 2 : 1);
+            expect_singles("answer", lent.answers, words + 5, letter == 'N' || letter == 'P' ? 2 : 1);
         }
     }
 }

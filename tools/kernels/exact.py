@@ -8,10 +8,10 @@
 Everything here is whole numbers; no float is ever computed with. A float is a pattern of bits, read by its
 fields (tools/floats.py). Three parts:
 
-1. The definition, from crates/table/specs, crates/kernels/specs and, for fma and round, crates/soft/specs.
-   Every answer must have its bits (a NaN equals any NaN).
-2. Document 01's exact values P, E and L, its rules about them, and K4's distances in double. L is worked out as one fraction. E is
-   enclosed between two numbers of 256 digits after the point, every step cut the safe way; a distance that
+1. The definition, from crates/table/specs, crates/kernels/specs and, for fma, round and the narrowing of a double,
+   crates/soft/specs. Every answer must have its bits (a NaN equals any NaN).
+2. Document 01's exact values P, E and L, its rules about them, K4's distances in double, and K1's of exp less 1. L and E - 1 are worked
+   out as one fraction. E is enclosed between two numbers of 256 digits after the point, every step cut the safe way; a distance that
    the enclosure cannot decide is decided by the exact fraction.
 3. The arguments: edges and the neighbourhoods where a case changes, and pseudo-random ones (random.Random(SEED),
    only its getrandbits). POINTS is about how many of the latter each kernel gets.
@@ -36,6 +36,11 @@ N = 0xB17217F7D1CF79AB
 def scaled(m, e, w):
     """m * 2 ^ e * w, rounded down to a whole number"""
     return m * w << e if e >= 0 else m * w >> -e
+
+
+def fraction(v):
+    """±m * 2 ^ e as num, den"""
+    return (-1 if v[0] else 1) * v[1] << max(v[2], 0), 1 << max(-v[2], 0)
 
 
 # ---- 1. the definition: table/specs
@@ -173,6 +178,18 @@ def exp_def(f, x):
     return power(f, -a if s else a)
 
 
+def tiny(x):
+    """between -2 ^ -24 and 2 ^ -24"""
+    num, den = fraction(x)
+    return abs(num) << 24 < den
+
+
+def expm1_def(f, x):
+    if finite(x) and tiny(x):
+        return x
+    return narrow_def(f, fma_def(F64, exp_def(F64, x), (False, 1, 0), (True, 1, 0)))  # times 1, less 1
+
+
 def ln_def(f, x):
     if not positive(x):
         return NAN
@@ -191,7 +208,14 @@ def pow_def(f, x, y):
     return power(f, -a if (l < 0) != s else a)
 
 
-# ---- HalfAway.antt and Fma.antt
+# ---- Narrow.antt, HalfAway.antt and Fma.antt
+def narrow_def(f, x):
+    if not finite(x):
+        return x
+    num, den = fraction(x)
+    return f.nearest(x[0], abs(num), den)
+
+
 def round_def(f, x):
     if not finite(x):
         return x
@@ -238,10 +262,11 @@ def E_between(num, den):
     return k, lo, hi
 
 
-def E_exact(num, den):
+def E(num, den):
+    """num, den of E(num / den)"""
     k, a, b = split(num, den)
     p, q = taylor(a, b)
-    return Fraction(p << max(k, 0), q << max(-k, 0))
+    return p << max(k, 0), q << max(-k, 0)
 
 
 ODDS = lcm(*range(1, 48, 2))
@@ -264,9 +289,10 @@ def L(m, e):
     return k * N * d + 2**64 * s, 2**64 * d
 
 
-# ---- document 01's rules, and K4's
+# ---- document 01's rules, K4's and K1's
 LIMITS = {F32: (86, 89, 23), F64: (700, 710, 50)}  # near, far, and the distance 2 ^ -p E
 LOGS = {F32: (23, 48), F64: (52, 60)}  # 2 ^ -p |L| + 2 ^ -q
+LESS_ONE = 23, 48  # 2 ^ -p |E - 1| + 2 ^ -q
 MILLION = 10**6
 
 
@@ -301,13 +327,13 @@ def near(v, num, den, p):
     most = max(abs(y - lo), abs(y - hi)) << p
     least = max(y - hi, lo - y, 0) << p
     if (most <= lo) != (least <= hi):  # the enclosure cannot tell
-        e = E_exact(num, den) * Fraction(1 << DIGITS) / Fraction(2) ** k
+        e = Fraction(*E(num, den)) * Fraction(1 << DIGITS) / Fraction(2) ** k
         return abs(y - e) * 2**p <= e, most * MILLION // lo
     return most <= lo, most * MILLION // lo
 
 
-def near_log(v, num, den, p, q):
-    """whether v lies within 2 ^ -p |L| + 2 ^ -q of L = num / den"""
+def close_to(v, num, den, p, q):
+    """whether v lies within 2 ^ -p |x| + 2 ^ -q of x = num / den, and the error in millionths of that"""
     if not finite(v):
         return False, 10**9
     up, down = max(v[2], 0), max(-v[2], 0)
@@ -333,11 +359,6 @@ def is_one(f, v):
     return f.to_bits(v) == f.one
 
 
-def fraction(v):
-    """±m * 2 ^ e as num, den"""
-    return (-1 if v[0] else 1) * v[1] << max(v[2], 0), 1 << max(-v[2], 0)
-
-
 def judge_exp(f, t, v, what, x):
     t.note("refused exactly where x is not finite", (v == NAN) != finite(x), None, what)
     if not finite(x):
@@ -345,6 +366,26 @@ def judge_exp(f, t, v, what, x):
     if x[1] == 0:
         t.note("exp(+-0) = 1", is_one(f, v), None, what)
     judge_power(f, t, v, *fraction(x), what)
+
+
+def judge_expm1(f, t, v, what, x):
+    t.note("refused exactly where x is not finite", (v == NAN) != finite(x), None, what)
+    if not finite(x):
+        return
+    if x[1] == 0:
+        t.note("expm1(+-0) is the zero given", f.to_bits(v) == f.to_bits(x), None, what)
+    num, den = fraction(x)
+    close, far, _ = LIMITS[f]
+    p, q = LESS_ONE
+    if abs(num) <= close * den:
+        a, b = E(num, den)
+        t.note(f"|A| <= {close}: within 2^-{p} |E - 1| + 2^-{q}", *close_to(v, a - b, b, p, q), what)
+    elif num >= far * den:
+        t.note(f"A >= {far}: +infinity", v == ("inf", False), None, what)
+    elif num <= -far * den:
+        t.note(f"A <= -{far}: -1", finite(v) and f.to_bits(v) == f.sign + f.one, None, what)
+    else:
+        t.note("in between: a number or +infinity", v == ("inf", False) or finite(v), None, what)
 
 
 def judge_ln(f, t, v, what, x):
@@ -355,7 +396,7 @@ def judge_ln(f, t, v, what, x):
     if num == 0:
         t.note("ln 1 = +0", f.to_bits(v) == 0, None, what)
     p, q = LOGS[f]
-    t.note(f"within 2^-{p} |L| + 2^-{q}", *near_log(v, num, den, p, q), what)
+    t.note(f"within 2^-{p} |L| + 2^-{q}", *close_to(v, num, den, p, q), what)
 
 
 def judge_pow(f, t, v, what, x, y):
@@ -430,6 +471,12 @@ class Source:
         xs += [self.scatter(-80, 7) for _ in range(n // 2)] + [self.any() for _ in range(n // 4)]
         return [(x,) for x in xs]
 
+    def less_ones(self):
+        """those of exp, and more next to 0, where little is left of exp less 1"""
+        xs = [b for j in range(64) for s in (-1, 1) for b in self.around(s, 2**j, 2)]
+        xs += [self.scatter(-30, -1) for _ in range(self.n)]
+        return self.exps() + [(x,) for x in xs]
+
     def logs(self):
         f, n = self.f, self.n
         xs = list(self.edges) + [e * f.hidden for e in range(f.ones + 1)]
@@ -503,11 +550,12 @@ class Source:
 
 
 KERNELS = {
-    "exp": (exp_def, judge_exp, Source.exps),
-    "ln": (ln_def, judge_ln, Source.logs),
-    "pow": (pow_def, judge_pow, Source.pows),
-    "fma": (fma_def, judge_nothing, Source.fmas),
-    "round": (round_def, judge_nothing, Source.rounds),
+    "exp": (exp_def, judge_exp, Source.exps, (F32, F64)),
+    "expm1": (expm1_def, judge_expm1, Source.less_ones, (F32,)),
+    "ln": (ln_def, judge_ln, Source.logs, (F32, F64)),
+    "pow": (pow_def, judge_pow, Source.pows, (F32, F64)),
+    "fma": (fma_def, judge_nothing, Source.fmas, (F32, F64)),
+    "round": (round_def, judge_nothing, Source.rounds, (F32, F64)),
 }
 
 
@@ -526,7 +574,7 @@ def word(b):
 
 
 def check(f, kernel, host, seed, n):
-    definition, judge, source = KERNELS[kernel]
+    definition, judge, source, _ = KERNELS[kernel]
     name = f"fsrs_{kernel}_{f.name}"
     arguments = [tuple(b % (1 << f.width) for b in bs) for bs in source(Source(f, seed, n))]
     values = [[f.of_bits(b) for b in bs] for bs in arguments]
@@ -549,7 +597,7 @@ def audit():
     """the enclosure of E holds the exact fraction"""
     for num, den in [(0, 1), (1, 3), (-1, 3), (86, 1), (-86, 1), (N, 2**64), (-N, 2**64), (700 * 2**40 - 1, 2**40)]:
         k, lo, hi = E_between(num, den)
-        p = E_exact(num, den) / Fraction(2) ** k * UNIT
+        p = Fraction(*E(num, den)) / Fraction(2) ** k * UNIT
         assert lo <= p <= hi and hi - lo < 64, (num, den)
 
 
@@ -565,9 +613,9 @@ def main(words):
         print("\n".join(f"0x{t:016X}" for t in TABLE[:256]))
         return 0
     audit()
-    total = [check(f, kernel, words, seed, n) for kernel in KERNELS for f in (F32, F64)]
+    total = [check(f, kernel, words, seed, n) for kernel, (*_, formats) in KERNELS.items() for f in formats]
     answers, differ, violated = (sum(column) for column in zip(*total))
-    print(f"{answers} answers, {differ} differ from the definition, {violated} violations of document 01 and K4")
+    print(f"{answers} answers, {differ} differ from the definition, {violated} violations of document 01, K4 and K1")
     return 0 if differ == violated == 0 else 1
 
 

@@ -29,6 +29,7 @@ static int answer(const char *name, const uint64_t b[3]) {
 #define F32(NAME, ...) if (!strcmp(name, #NAME)) { say_single(NAME(__VA_ARGS__)); return 1; }
 #define F64(NAME, ...) if (!strcmp(name, #NAME)) { say_double(NAME(__VA_ARGS__)); return 1; }
     F32(fsrs_exp_f32, single(b[0]))
+    F32(fsrs_expm1_f32, single(b[0]))
     F32(fsrs_ln_f32, single(b[0]))
     F32(fsrs_pow_f32, single(b[0]), single(b[1]))
     F32(fsrs_fma_f32, single(b[0]), single(b[1]), single(b[2]))

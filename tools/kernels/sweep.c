@@ -1,11 +1,13 @@
-/* All 2^32 singles through fsrs_exp_f32 and fsrs_ln_f32, by document 01's rules.
+/* All 2^32 singles through fsrs_exp_f32, fsrs_expm1_f32 and fsrs_ln_f32, by document 01's rules and K1's.
 
-   sweep [STEP] [THREADS]: every STEP-th pattern (default 1), by THREADS threads (default 2).
+   sweep [KERNEL [STEP [THREADS]]]: KERNEL, as in expm1, or all of them; every STEP-th pattern (default 1), by THREADS
+   threads (default 2).
 
-   The reference is the machine's exp and log in double. Its own error counts against the kernel: an answer passes
-   only within the allowed distance LESS what the reference may be wrong by, which is
-     exp: 2^-51 E             libm within an ulp, 2^-52; E and e^A within 2^-57, since 2^64 ln 2 - N < 1 and |k| < 128
-     ln:  2^-51 |L| + 2^-56   libm within an ulp; L and ln within 150 / 2^64 < 2^-56, and 2^-82 of the series
+   The reference is the machine's exp, expm1 and log in double. Its own error counts against the kernel: an answer
+   passes only within the allowed distance LESS what the reference may be wrong by, which is
+     exp:   2^-51 E                 libm within an ulp, 2^-52; E and e^A within 2^-57 E, since 2^64 ln 2 - N < 1 and |k| < 128
+     expm1: 2^-51 |E - 1| + 2^-57   likewise, and E is at most 1 + |E - 1|
+     ln:    2^-51 |L| + 2^-56       libm within an ulp; L and ln within 150 / 2^64 < 2^-56, and 2^-82 of the series
    The subtraction of two doubles this near is exact, and the parts printed are by the allowed distance itself.
    The digest is a sum over all patterns of a mix of the pattern and the answer, any NaN as 7fc00000: two libraries
    with the same digest gave, but for an accident of 2^-64, the same bits everywhere. */
@@ -65,6 +67,24 @@ static float one_exp(struct tally *t, uint32_t b) {
     return y;
 }
 
+static float one_expm1(struct tally *t, uint32_t b) {
+    float x = of_bits(b), y = fsrs_expm1_f32(x);
+    int finite = isfinite(x) != 0;
+    note(t, REFUSED, finite != (isnan(y) != 0), b);
+    if (!finite) return y;
+    if (x == 0) note(t, EXACT, to_bits(y) == b, b);
+    if (fabsf(x) <= 86) {
+        double m = expm1((double)x), size = fabs(m);
+        note_near(t, b, y, m, 0x1p-23 * size + 0x1p-48, 0x1p-51 * size + 0x1p-57);
+    } else if (x >= 89)
+        note(t, ABOVE, to_bits(y) == 0x7f800000, b);
+    else if (x <= -89)
+        note(t, BELOW, to_bits(y) == 0xbf800000, b);
+    else
+        note(t, BETWEEN, y > -INFINITY, b);
+    return y;
+}
+
 static float one_ln(struct tally *t, uint32_t b) {
     float x = of_bits(b), y = fsrs_ln_f32(x);
     int inside = x > 0 && isfinite(x);
@@ -112,13 +132,36 @@ static void join(struct tally *sum, const struct tally *t) {
     }
 }
 
-static uint64_t sweep(const char *name, kernel *k, int threads, const char *const rules[RULES]) {
+static const struct sweep {
+    const char *name;
+    kernel *kernel;
+    const char *rules[RULES];
+} sweeps[] = {
+    {"exp", one_exp, {
+        [REFUSED] = "refused exactly where x is not finite", [EXACT] = "exp(+-0) = 1",
+        [NEAR] = "|A| <= 86: within 2^-23 E",                [SUBNORMAL] = "    of these zero and subnormal x",
+        [ABOVE] = "A >= 89: +infinity",                      [BELOW] = "A <= -89: +0",
+        [BETWEEN] = "in between: +0, a number or +infinity",
+    }},
+    {"expm1", one_expm1, {
+        [REFUSED] = "refused exactly where x is not finite", [EXACT] = "expm1(+-0) is the zero given",
+        [NEAR] = "|A| <= 86: within 2^-23 |E - 1| + 2^-48",  [SUBNORMAL] = "    of these zero and subnormal x",
+        [ABOVE] = "A >= 89: +infinity",                      [BELOW] = "A <= -89: -1",
+        [BETWEEN] = "in between: a number or +infinity",
+    }},
+    {"ln", one_ln, {
+        [REFUSED] = "refused exactly where x is not positive, finite", [EXACT] = "ln 1 = +0",
+        [NEAR] = "within 2^-23 |L| + 2^-48",                           [SUBNORMAL] = "    of these subnormal x",
+    }},
+};
+
+static uint64_t run(const struct sweep *s, int threads) {
     struct tally sum = {0}, *each = calloc((size_t)threads, sizeof *each);
     pthread_t *ids = calloc((size_t)threads, sizeof *ids);
     struct timespec a, z;
     uint64_t bad = 0;
     if (!each || !ids) exit(2);
-    now = k;
+    now = s->kernel;
     atomic_store(&next, 0);
     clock_gettime(CLOCK_MONOTONIC, &a);
     for (int i = 0; i < threads; i++)
@@ -128,11 +171,11 @@ static uint64_t sweep(const char *name, kernel *k, int threads, const char *cons
         join(&sum, &each[i]);
     }
     clock_gettime(CLOCK_MONOTONIC, &z);
-    printf("%s: %" PRIu64 " patterns, digest %016" PRIx64 ", %.0f s\n", name, (ALL - 1) / step + 1, sum.digest,
-           (double)(z.tv_sec - a.tv_sec) + 1e-9 * (double)(z.tv_nsec - a.tv_nsec));
+    printf("fsrs_%s_f32: %" PRIu64 " patterns, digest %016" PRIx64 ", %.0f s\n", s->name, (ALL - 1) / step + 1,
+           sum.digest, (double)(z.tv_sec - a.tv_sec) + 1e-9 * (double)(z.tv_nsec - a.tv_nsec));
     for (int r = 0; r < RULES; r++) {
-        if (!rules[r]) continue;
-        printf("    %-48s %10" PRIu64 " asked, %" PRIu64 " violated", rules[r], sum.asked[r], sum.bad[r]);
+        if (!s->rules[r]) continue;
+        printf("    %-48s %10" PRIu64 " asked, %" PRIu64 " violated", s->rules[r], sum.asked[r], sum.bad[r]);
         if (r == NEAR) printf(", worst %.6f of the allowed, at %08" PRIx32, sum.worst, sum.worst_at);
         printf("\n");
         bad += sum.bad[r];
@@ -145,23 +188,19 @@ static uint64_t sweep(const char *name, kernel *k, int threads, const char *cons
 }
 
 int main(int argc, char **argv) {
-    static const char *const exps[RULES] = {
-        [REFUSED] = "refused exactly where x is not finite", [EXACT] = "exp(+-0) = 1",
-        [NEAR] = "|A| <= 86: within 2^-23 E",                [SUBNORMAL] = "    of these zero and subnormal x",
-        [ABOVE] = "A >= 89: +infinity",                      [BELOW] = "A <= -89: +0",
-        [BETWEEN] = "in between: +0, a number or +infinity",
-    };
-    static const char *const lns[RULES] = {
-        [REFUSED] = "refused exactly where x is not positive, finite", [EXACT] = "ln 1 = +0",
-        [NEAR] = "within 2^-23 |L| + 2^-48",                           [SUBNORMAL] = "    of these subnormal x",
-    };
-    step = argc > 1 ? strtoull(argv[1], NULL, 10) : 1;
-    int threads = argc > 2 ? atoi(argv[2]) : 2;
-    if (step < 1 || threads < 1) {
-        fprintf(stderr, "usage: sweep [STEP] [THREADS]\n");
+    const char *only = argc > 1 ? argv[1] : "all";
+    step = argc > 2 ? strtoull(argv[2], NULL, 10) : 1;
+    int threads = argc > 3 ? atoi(argv[3]) : 2, ran = 0;
+    uint64_t bad = 0;
+    for (size_t i = 0; i < sizeof sweeps / sizeof *sweeps && step > 0 && threads > 0; i++) {
+        if (strcmp(only, "all") && strcmp(only, sweeps[i].name)) continue;
+        bad += run(&sweeps[i], threads);
+        ran++;
+    }
+    if (!ran) {
+        fprintf(stderr, "usage: sweep [exp | expm1 | ln | all [STEP [THREADS]]]\n");
         return 2;
     }
-    uint64_t bad = sweep("fsrs_exp_f32", one_exp, threads, exps) + sweep("fsrs_ln_f32", one_ln, threads, lns);
     printf("%" PRIu64 " violations\n", bad);
     return bad != 0;
 }

@@ -1,5 +1,6 @@
 #!/usr/bin/env python3
-"""Writes crates/vectors/data/arithmetic, the test vectors of the fused multiply-add and of `round`, and what the program says of it.
+"""Writes crates/vectors/data/arithmetic, the test vectors of the fused multiply-add, of `round` and of a double made a single, and what
+the program says of it.
 
     tools/vectors/arithmetic.py [SEED]
 
@@ -13,14 +14,15 @@ lines.py says what all lists share. The words of a line are three arguments, 0 w
 
     F f  fma_f64 fma_f32       x y z r
     R r  round_f64 round_f32   x 0 0 r
+    n    narrow                x 0 0 r; x is a double, r a single
 """
 from fractions import Fraction
 
 from lines import Lines, below, between, either, seeded
 
-from floats import F32, F64, fma, half_away
+from floats import F32, F64, fma, half_away, narrow
 
-NAMES = {"F": "fma_f64", "f": "fma_f32", "R": "round_f64", "r": "round_f32"}
+NAMES = {"F": "fma_f64", "f": "fma_f32", "R": "round_f64", "r": "round_f32", "n": "narrow"}
 
 lines = Lines("arithmetic", NAMES)
 remark = lines.remark
@@ -32,6 +34,11 @@ def add_fma(f, x, y, z):
 
 def add_round(f, x):
     lines.add("R" if f is F64 else "r", x, 0, 0, half_away(f, x))
+
+
+def add_narrow(x):
+    for b in (x, F64.neg(x)):
+        lines.add("n", b, 0, 0, narrow(b))
 
 
 # ---- pseudo-random arguments
@@ -243,8 +250,28 @@ def round_cases(f, n):
         add_round(f, below(2 * f.sign))
 
 
+# ---- the cases of a double made a single
+
+def narrow_cases(n):
+    for x in (0, 1, F64.least, F64.one, F64.max, F64.inf, F64.nan, F64.inf + 1):
+        add_narrow(x)
+    # half-way between two singles, or beside that: the smallest, subnormal ones, normal ones, the last and the infinity
+    for m, e in ((1, -150), (3, -150), (F32.hidden - 1, -150), (2 * F32.hidden - 1, -150), (2 * F32.hidden + 1, -150),
+                 (2 * F32.hidden + 1, -24), (2 * F32.hidden + 3, -24), (4 * F32.hidden - 1, -24), (4 * F32.hidden - 1, 103)):
+        tie = F64.exactly(m, e)
+        for x in (tie - 1, tie, tie + 1):
+            add_narrow(x)
+    for _ in range(n):
+        add_narrow(some_float(F64, -152, 129))
+    for _ in range(n // 2):  # few digits after those of a single
+        m, e = some_digits(24), between(-149, 104)
+        add_narrow(F64.exactly(2 * m + 1, e - 1) + either(0, 1, -1))
+    for _ in range(n // 4):
+        add_narrow(below(F64.sign))
+
+
 def main():
-    remark("Test vectors of fma and round, seed %d: made by tools/vectors/arithmetic.py, which says how" % seeded())
+    remark("Test vectors of fma, round and narrow, seed %d: made by tools/vectors/arithmetic.py, which says how" % seeded())
     for f, name in ((F64, "fma_f64"), (F32, "fma_f32")):
         remark(name + ": zeros, infinities and NaNs in every place")
         fma_specials(f)
@@ -266,6 +293,8 @@ def main():
     remark("round")
     round_cases(F64, 40)
     round_cases(F32, 40)
+    remark("narrow")
+    narrow_cases(40)
     lines.write()
 
 

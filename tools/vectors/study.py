@@ -5,11 +5,11 @@
 
 How the list is made: every answer is computed here, with whole numbers and exact fractions alone, and
 never with a float. The formulas are the Rust's own, line by line under its names, from model_v6.rs and
-inference_v6.rs; the box, the ranges and the refusals are document 01's. This is a second reading of
-both: nothing is taken from the definitions of the crates, but for what `max` and `min` give of two
+inference_v6.rs; the box, the ranges and the refusals are document 01's, and 14 is K1's. This is a second
+reading of both: nothing is taken from the definitions of the crates, but for what `max` and `min` give of two
 zeros with unlike signs, which Rust leaves open. Each sum, difference, product, quotient, fused
-multiply-add and `round` is an exact fraction, rounded once (tools/floats.py). exp, ln and pow are the
-kernels' definition over whole numbers (tools/kernels/exact.py); what it refuses is a NaN inside a
+multiply-add and `round` is an exact fraction, rounded once (tools/floats.py). exp, exp_m1, ln and pow are
+the kernels' definition over whole numbers (tools/kernels/exact.py); what it refuses is a NaN inside a
 formula. The arguments are chosen below: first cases by hand, then pseudo-random ones
 (random.Random(SEED), SEED 1 if none is given; only its getrandbits is used).
 
@@ -39,6 +39,7 @@ u, k and F have 22 words.
     M    mean_reversion_scalar                  init current -> refusal, value
     D    next_difficulty_scalar                 d rating     -> refusal, value
     N    next_state_scalar                      stability difficulty day rating -> refusal, stability, difficulty
+    P    memory_state_from_sm2_scalar           ease interval retention -> refusal, stability, difficulty
 """
 from fractions import Fraction
 from functools import partial
@@ -47,7 +48,7 @@ from lines import Lines, below, between, either, seeded
 
 import floats
 import rules
-from exact import exp_def, ln_def, pow_def
+from exact import exp_def, expm1_def, ln_def, pow_def
 from floats import F32, NAN
 
 NAMES = {
@@ -57,7 +58,7 @@ NAMES = {
     "u": "default_weights", "k": "copy_weights", "F": "check_and_fill_parameters_fsrs6", "C": "power_forgetting_curve_scalar",
     "I": "next_interval_scalar", "S": "stability_after_success_scalar", "L": "stability_after_failure_scalar",
     "T": "stability_short_term_scalar", "E": "init_difficulty_scalar", "M": "mean_reversion_scalar",
-    "D": "next_difficulty_scalar", "N": "next_state_scalar",
+    "D": "next_difficulty_scalar", "N": "next_state_scalar", "P": "memory_state_from_sm2_scalar",
 }
 
 # ---- singles
@@ -75,7 +76,7 @@ def kernel(definition, *bits):
     return F32.nan if v == NAN else F32.to_bits(v)
 
 
-exp, ln, powf = (partial(kernel, definition) for definition in (exp_def, ln_def, pow_def))
+exp, exp_m1, ln, powf = (partial(kernel, definition) for definition in (exp_def, expm1_def, ln_def, pow_def))
 
 
 def is_finite(x):
@@ -210,7 +211,20 @@ def next_state_scalar(w, stability, difficulty, delta_t, rating):
     return stability, next_difficulty_scalar(w, d, rating)
 
 
-# ---- document 01's refusals
+def memory_state_from_sm2_scalar(w, ease_factor, interval, sm2_retention):
+    """None where the Rust has an error."""
+    decay = neg(w[20])
+    factor = sub(powf(number("0.9"), div(ONE, decay)), ONE)
+    stability = div(mul(maximum(interval, S_MIN), factor), sub(powf(sm2_retention, div(ONE, decay)), ONE))
+    product = mul(exp(w[8]), powf(stability, neg(w[9])))
+    product = mul(product, exp_m1(mul(sub(ONE, sm2_retention), w[10])))
+    difficulty = sub(ELEVEN, div(sub(ease_factor, ONE), product))
+    if not is_finite(stability) or not is_finite(difficulty):
+        return None
+    return stability, clamp(difficulty, D_MIN, D_MAX)
+
+
+# ---- document 01's refusals, and K1's
 
 def is_stability(s):
     return is_within(s, S_MIN, S_MAX)
@@ -260,6 +274,7 @@ FORMULAS = {
     "M": (mean_reversion_scalar, (is_finite, is_finite)),
     "D": (next_difficulty_scalar, (is_difficulty, is_rating)),
     "N": (next_state_scalar, (is_finite, is_finite, is_day, lambda rating: True)),
+    "P": (memory_state_from_sm2_scalar, (is_finite, is_finite, is_finite)),
 }
 TRUTHS = {"f": is_finite, "i": is_within, "p": is_stability, "q": is_difficulty, "t": is_day}
 VALUES = {
@@ -308,6 +323,8 @@ def ask(letter, *arguments):
         good = all(is_good(x) for is_good, x in zip(ranges, arguments, strict=True))
         refusal = weights_refusal(weights) or (0 if good else 13)
         answer = 0 if refusal else formula(weights, *arguments)
+        if answer is None:
+            refusal, answer = 14, 0
         values = answer if isinstance(answer, tuple) else (answer,)
         line(letter, arguments, refusal, *(one_nan(x) for x in values))
 
@@ -467,10 +484,11 @@ R = number("0.9")
 GOOD = {
     "C": (TEN, THREE), "I": (TEN, R), "S": (THREE, R, number("5.5"), 3), "L": (TEN, R, number("4.25")), "T": (ONE, 3),
     "E": (2,), "M": (number("5.5"), TWO), "D": (number("5.5"), 3), "N": (number("12.5"), number("6.25"), TEN, 3),
+    "P": (number("2.5"), TEN, R),
 }
 BAD = {
     "C": (NONE, ONE), "I": (ONE, INF), "S": (THREE, TWO, THREE, 3), "L": (ZERO, ONE, THREE), "T": (ONE, 5),
-    "E": (0,), "M": (INF, ONE), "D": (ELEVEN, 3), "N": (NONE, ONE, ONE, 3),
+    "E": (0,), "M": (INF, ONE), "D": (ELEVEN, 3), "N": (NONE, ONE, ONE, 3), "P": (NONE, ONE, ZERO),
 }
 
 
@@ -615,7 +633,7 @@ def some_arguments(letter):
 
 
 def some_cases():
-    for letter in (*FORMULAS, "N"):
+    for letter in "CISLTEMDNN":
         ask(letter, *some_arguments(letter))
 
 
@@ -687,6 +705,109 @@ def misread_cases(n):
             found += 1
 
 
+# ---- the cases of a deck from SM-2
+
+def sm2_edge_cases():
+    far = [number(text) for text in "3e38 -3e38 1e30 -1e30".split()]
+    for place, texts, ends in (
+        (0, "1.3 1.7 2.1 3 5 100 -1", (ONE,)),
+        (1, "0.5 1 30 365.25 -3", (S_MIN, S_MAX)),
+        (2, "1e-38 1e-10 0.0001 0.1 0.5 0.8 0.95 0.9999 1.5 90 -0.5", (ONE,)),
+    ):
+        each("P", place, FREE + far + around(*ends) + [number(text) for text in texts.split()])
+    for x in (NONE, INF, neg(INF)):  # 13 before 14
+        for retention in (ZERO, ONE, x):
+            ask("P", x, TEN, retention)
+            ask("P", TWO, x, retention)
+
+
+def last_ease(end):
+    """The last ease factor whose difficulty is not below the end: the larger the factor, the smaller the difficulty."""
+    above, low = ONE, TEN
+    while low - above > 1:
+        middle = (above + low) // 2
+        _, difficulty = memory_state_from_sm2_scalar(weights, middle, *GOOD["P"][1:])
+        above, low = (above, middle) if less(difficulty, end) else (middle, low)
+    return above
+
+
+def sm2_weight_cases():
+    for i, texts in ((10, "0 -0.0 1e-30 1e-15 1e-7 5"), (9, "0 1"), (8, "-5 5"), (20, "0.1 0.5 1")):
+        for text in texts.split():
+            take(with_one(FSRS6_DEFAULT_PARAMETERS, i, MINUS if text == "-0.0" else number(text)))
+            for ease in (ONE, number("2.5")):
+                for retention in (number("1e-38"), number("0.01"), R, down(ONE), number("1.5"), number("-0.5")):
+                    ask("P", ease, TEN, retention)
+            ask("P", number("2.5"), number("3e38"), R)
+    for w in (LOWEST, HIGHEST, NEGATIVE_ZEROS, *(corner(lambda i: below(2)) for _ in range(6))):
+        take(w)
+        for _ in range(3):
+            ask("P", *some_card())
+
+
+def some_card():
+    """As a deck has them, or anything that is not negative."""
+    ease = either(some_single(number("1.3"), number("3.5")), some_single(ZERO, number(100)))
+    interval = either(number(1 + below(400)), some_single(ZERO, S_MAX), some_single(ZERO, F32.max))
+    return ease, interval, either(some_single(number("0.5"), ONE), some_single(ZERO, ONE))
+
+
+# ---- misreadings of it; each is given the stability of the formula
+
+def difficulty_of(w, ease, retention, stability, less_one=exp_m1):
+    product = mul(mul(exp(w[8]), powf(stability, neg(w[9]))), less_one(mul(sub(ONE, retention), w[10])))
+    return clamp(sub(ELEVEN, div(sub(ease, ONE), product)), D_MIN, D_MAX)
+
+
+def sm2_by_a_quotient(w, ease, interval, retention, stability):
+    """The factor is divided first."""
+    factor, power = (sub(powf(x, div(ONE, neg(w[20]))), ONE) for x in (number("0.9"), retention))
+    stability = mul(maximum(interval, S_MIN), div(factor, power))
+    return stability, difficulty_of(w, ease, retention, stability)
+
+
+def sm2_by_exp(w, ease, interval, retention, stability):
+    return stability, difficulty_of(w, ease, retention, stability, lambda x: sub(exp(x), ONE))
+
+
+def sm2_clamped(w, ease, interval, retention, stability):
+    return stability, difficulty_of(w, ease, retention, clamp(stability, S_MIN, S_MAX))
+
+
+def sm2_in_another_order(w, ease, interval, retention, stability):
+    product = mul(powf(stability, neg(w[9])), exp_m1(mul(sub(ONE, retention), w[10])))
+    return stability, clamp(sub(ELEVEN, div(sub(ease, ONE), mul(exp(w[8]), product))), D_MIN, D_MAX)
+
+
+def sm2_some_cases():
+    for misread in (sm2_by_a_quotient, sm2_by_exp, sm2_clamped, sm2_in_another_order):
+        found = 0
+        while found < 6:
+            w, card = either(FSRS6_DEFAULT_PARAMETERS, some_set()), some_card()
+            answer = memory_state_from_sm2_scalar(w, *card)
+            if answer and misread(w, *card, answer[0]) != answer:
+                take(w)
+                ask("P", *card)
+                found += 1
+    for w in (FSRS6_DEFAULT_PARAMETERS, *(some_set() for _ in range(12))):
+        take(w)
+        for _ in range(3):
+            ask("P", *some_card())
+
+
+def sm2_cases():
+    remark("memory_state_from_sm2_scalar: ease factors, intervals and retentions, and reasons for 13 and 14 at once")
+    take(FSRS6_DEFAULT_PARAMETERS)
+    sm2_edge_cases()
+    remark("memory_state_from_sm2_scalar: where the difficulty meets an end of its range")
+    for end in (D_MAX, up(D_MIN)):
+        each("P", 0, around(last_ease(end)))
+    remark("memory_state_from_sm2_scalar: weights by which a factor vanishes or a power is 1, and corners of the box")
+    sm2_weight_cases()
+    remark("memory_state_from_sm2_scalar: pseudo-random, first where the formula worked in another way gives another answer")
+    sm2_some_cases()
+
+
 def main():
     remark("Test vectors of domain and model_v6, seed %d: made by tools/vectors/study.py, which says how" % seeded())
     remark("domain: comparing")
@@ -716,6 +837,7 @@ def main():
     for _ in range(12):
         take(some_set())
         some_cases()
+    sm2_cases()
     lines.write()
 
 

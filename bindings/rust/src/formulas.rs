@@ -155,3 +155,23 @@ pub fn stability_short_term(w: &[f32], s: f32, rating: u32) -> Result<f32, Refus
 pub fn next_state(w: &[f32], state: State, delta_t: f32, rating: u32) -> Result<State, Refusal> {
     raw::next_state(w, state, delta_t, rating)
 }
+
+/// The state of a card from an SM-2 deck, by its ease factor, its interval in days, and the share of the deck's reviews
+/// that were recalled (0.9, not 90). The stability is not clamped.
+///
+/// Refusals: [`Refusal::WeightCount`], [`Refusal::WeightBox`], [`Refusal::Scalar`], [`Refusal::Import`].
+///
+/// ```
+/// use fsrs6::{check_and_fill_parameters, memory_state_from_sm2, Refusal};
+/// let w = check_and_fill_parameters(&[])?;
+/// let card = memory_state_from_sm2(&w, 2.5, 8.0, 0.9)?;
+/// assert_eq!(card.stability, 8.0); // at 0.9 the interval is the stability
+/// assert!(memory_state_from_sm2(&w, 1.3, 8.0, 0.9)?.difficulty > card.difficulty);
+/// assert!(memory_state_from_sm2(&w, 2.5, 8.0, 0.8)?.stability < 8.0);
+/// assert_eq!(memory_state_from_sm2(&w, 2.5, f32::INFINITY, 0.9), Err(Refusal::Scalar));
+/// assert_eq!(memory_state_from_sm2(&w, 2.5, 8.0, 90.0), Err(Refusal::Import));
+/// # Ok::<(), Refusal>(())
+/// ```
+pub fn memory_state_from_sm2(w: &[f32], ease_factor: f32, interval: f32, sm2_retention: f32) -> Result<State, Refusal> {
+    raw::memory_state_from_sm2(w, ease_factor, interval, sm2_retention)
+}

@@ -1,4 +1,4 @@
-//! exp, ln, pow, the fused multiply-add and the nearest whole number.
+//! exp, exp less 1, ln, pow, the fused multiply-add and the nearest whole number.
 
 use crate::{raw, Refusal};
 
@@ -36,6 +36,18 @@ pub fn exp_f32(x: f32) -> Result<f32, Refusal> {
 /// ```
 pub fn exp_f64(x: f64) -> Result<f64, Refusal> {
     checked!(raw::exp_f64(x))
+}
+
+/// e to the power x, less 1, in single: near also where x is next to 0. Refused where x is not finite.
+///
+/// ```
+/// use fsrs6::{expm1_f32, Refusal};
+/// assert_eq!(expm1_f32(1e-30), Ok(1e-30));
+/// assert_eq!(expm1_f32(-89.0), Ok(-1.0));
+/// assert_eq!(expm1_f32(f32::NAN), Err(Refusal::Kernel));
+/// ```
+pub fn expm1_f32(x: f32) -> Result<f32, Refusal> {
+    checked!(raw::expm1_f32(x))
 }
 
 /// The natural logarithm, in single. Refused where x is not positive and finite.

@@ -26,10 +26,12 @@ mod refusal;
 mod step;
 
 pub use formulas::{
-    check_and_fill_parameters, init_difficulty, mean_reversion, next_difficulty, next_interval, next_state,
-    power_forgetting_curve, stability_after_failure, stability_after_success, stability_short_term,
+    check_and_fill_parameters, init_difficulty, mean_reversion, memory_state_from_sm2, next_difficulty, next_interval,
+    next_state, power_forgetting_curve, stability_after_failure, stability_after_success, stability_short_term,
 };
-pub use kernels::{exp_f32, exp_f64, fma_f32, fma_f64, ln_f32, ln_f64, pow_f32, pow_f64, round_f32, round_f64};
+pub use kernels::{
+    exp_f32, exp_f64, expm1_f32, fma_f32, fma_f64, ln_f32, ln_f64, pow_f32, pow_f64, round_f32, round_f64,
+};
 pub use losses::{batch_file, batch_loss, batch_loss_and_grad, card_loss, card_loss_and_grad, Cards, Gradient, Prefixes};
 pub use refusal::Refusal;
 pub use step::{training_step, training_step_backward, StateGradient, Step, Stepped};

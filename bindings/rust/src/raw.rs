@@ -11,6 +11,7 @@ mod c {
     extern "C" {
         pub fn fsrs_exp_f32(x: f32) -> f32;
         pub fn fsrs_exp_f64(x: f64) -> f64;
+        pub fn fsrs_expm1_f32(x: f32) -> f32;
         pub fn fsrs_ln_f32(x: f32) -> f32;
         pub fn fsrs_ln_f64(x: f64) -> f64;
         pub fn fsrs_pow_f32(x: f32, y: f32) -> f32;
@@ -65,6 +66,15 @@ mod c {
             rating: u32,
             next_stability: *mut f32,
             next_difficulty: *mut f32,
+        ) -> u32;
+        pub fn fsrs_memory_state_from_sm2(
+            w: *const f32,
+            w_len: usize,
+            ease_factor: f32,
+            interval: f32,
+            sm2_retention: f32,
+            stability: *mut f32,
+            difficulty: *mut f32,
         ) -> u32;
 
         pub fn fsrs_training_step(
@@ -195,6 +205,7 @@ macro_rules! kernels {
 kernels! {
     exp_f32 = fsrs_exp_f32(x): f32;
     exp_f64 = fsrs_exp_f64(x): f64;
+    expm1_f32 = fsrs_expm1_f32(x): f32;
     ln_f32 = fsrs_ln_f32(x): f32;
     ln_f64 = fsrs_ln_f64(x): f64;
     pow_f32 = fsrs_pow_f32(x, y): f32;
@@ -252,6 +263,23 @@ pub fn next_state(w: &[f32], q: State, delta_t: f32, rating: u32) -> Result<Stat
         )
     };
     Refusal::accepted(number, next)
+}
+
+pub fn memory_state_from_sm2(w: &[f32], ease_factor: f32, interval: f32, sm2_retention: f32) -> Result<State, Refusal> {
+    let mut state = State::default();
+    // SAFETY: w is a slice with its own length; the two places are apart and this function's.
+    let number = unsafe {
+        c::fsrs_memory_state_from_sm2(
+            w.as_ptr(),
+            w.len(),
+            ease_factor,
+            interval,
+            sm2_retention,
+            &mut state.stability,
+            &mut state.difficulty,
+        )
+    };
+    Refusal::accepted(number, state)
 }
 
 pub fn training_step(w: &[f32], x: Step) -> Result<Stepped, Refusal> {

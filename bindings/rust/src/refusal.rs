@@ -33,11 +33,13 @@ pub enum Refusal {
     FillingCount = 12,
     /// An argument of a formula or of a single step.
     Scalar = 13,
+    /// A card from SM-2 gets no finite state, as by a retention not inside 0..1.
+    Import = 14,
 }
 
 impl Refusal {
     /// All of them, by their numbers.
-    pub const ALL: [Refusal; 13] = [
+    pub const ALL: [Refusal; 14] = [
         Refusal::WeightCount,
         Refusal::WeightBox,
         Refusal::Sizes,
@@ -51,9 +53,10 @@ impl Refusal {
         Refusal::File,
         Refusal::FillingCount,
         Refusal::Scalar,
+        Refusal::Import,
     ];
 
-    /// The refusal's number, from 1 to 13, as the C functions return it.
+    /// The refusal's number, from 1 to 14, as the C functions return it.
     ///
     /// ```
     /// assert_eq!(fsrs6::Refusal::Day.number(), 7);
@@ -62,12 +65,12 @@ impl Refusal {
         self as u32
     }
 
-    /// What a returned number says. The library is proved to return no number above 13, so what stands here for such a
+    /// What a returned number says. The library is proved to return no number above 14, so what stands here for such a
     /// number, the last refusal, is never seen; it spares every caller a panic or a variant of its own.
     pub(crate) fn accepted<T>(number: u32, answer: T) -> Result<T, Refusal> {
         match number {
             0 => Ok(answer),
-            n => Err(Refusal::ALL.get(n as usize - 1).copied().unwrap_or(Refusal::Scalar)),
+            n => Err(Refusal::ALL.get(n as usize - 1).copied().unwrap_or(Refusal::Import)),
         }
     }
 }
@@ -88,6 +91,7 @@ impl fmt::Display for Refusal {
             Refusal::File => "the batch file is malformed",
             Refusal::FillingCount => "a weight set to fill has not 0, 17, 19 or 21 entries",
             Refusal::Scalar => "an argument is not finite or out of range",
+            Refusal::Import => "a card from SM-2 gets no finite stability or difficulty",
         })
     }
 }

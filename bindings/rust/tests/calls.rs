@@ -94,7 +94,7 @@ macro_rules! function {
     };
 }
 
-const FORMULAS: [Function; 9] = [
+const FORMULAS: [Function; 10] = [
     function!(|x| power_forgetting_curve(&x.w, x.step.day, x.step.state.stability)),
     function!(|x| next_interval(&x.w, x.step.state.stability, 0.9)),
     function!(|x| init_difficulty(&x.w, x.rating)),
@@ -104,6 +104,7 @@ const FORMULAS: [Function; 9] = [
     function!(|x| stability_after_failure(&x.w, x.step.state.stability, 0.9, x.step.state.difficulty)),
     function!(|x| stability_short_term(&x.w, x.step.state.stability, x.rating)),
     function!(|x| next_state(&x.w, x.step.state, x.step.day, x.rating)),
+    function!(|x| memory_state_from_sm2(&x.w, 2.5, x.step.state.stability, 0.9)),
 ];
 const FILL: Function = function!(|x| check_and_fill_parameters(&x.w));
 const STEP: Function = function!(|x| training_step(&x.w, x.step));
@@ -156,6 +157,30 @@ fn scalars_are_refused() {
 }
 
 #[test]
+fn cards_from_sm2_are_refused() {
+    let mut w = Call::good().w;
+    let refused = |w: &[f32], ease, interval, retention, refusal| {
+        assert_eq!(memory_state_from_sm2(w, ease, interval, retention), Err(refusal), "{ease} {interval} {retention}")
+    };
+    for x in [f32::INFINITY, f32::NEG_INFINITY, f32::NAN] {
+        refused(&w, x, 5.0, 0.9, Refusal::Scalar);
+        refused(&w, 2.5, x, 0.9, Refusal::Scalar);
+        refused(&w, 2.5, 5.0, x, Refusal::Scalar);
+        refused(&w, x, 5.0, 0.0, Refusal::Scalar);
+        refused(&w, 2.5, x, 1.0, Refusal::Scalar);
+    }
+    for retention in [0.0, -0.0, f32::from_bits(0x80000001), -0.5, -3e38, 1.0, 1.0 + f32::EPSILON, 1.5, 90.0, 3e38] {
+        refused(&w, 2.5, 5.0, retention, Refusal::Import);
+    }
+    for ease in [3e38, -3e38] {
+        refused(&w, ease, 5.0, 0.9, Refusal::Import);
+    }
+    refused(&w[..20], f32::NAN, 5.0, 0.0, Refusal::WeightCount);
+    w[20] = 1.5;
+    refused(&w, f32::NAN, 5.0, 0.0, Refusal::WeightBox);
+}
+
+#[test]
 fn slots_sizes_and_room_are_refused() {
     refuse(&[STEP_BACKWARD, PREFIX_GRAD, CARD_GRAD], Refusal::SlotCount, |x| x.gw.truncate(20));
     let losses = [PREFIX, PREFIX_GRAD, CARD, CARD_GRAD];
@@ -198,6 +223,10 @@ fn refusals_have_document_01s_numbers() {
 fn kernels_answer() {
     assert_eq!((exp_f32(-0.0), exp_f64(-0.0)), (Ok(1.0), Ok(1.0)));
     assert_eq!((exp_f32(-89.0), exp_f64(710.0)), (Ok(0.0), Ok(f64::INFINITY)));
+    assert_eq!((expm1_f32(-89.0), expm1_f32(89.0)), (Ok(-1.0), Ok(f32::INFINITY)));
+    for x in [0.0, -0.0, f32::from_bits(1), -f32::MIN_POSITIVE, f32::powi(2.0, -24), -f32::powi(2.0, -24)] {
+        assert_eq!(expm1_f32(x).map(f32::to_bits), Ok(x.to_bits()));
+    }
     assert_eq!((ln_f32(1.0), ln_f64(1.0)), (Ok(0.0), Ok(0.0)));
     assert_eq!((pow_f32(1.0, 16.0), pow_f64(7.0, -0.0)), (Ok(1.0), Ok(1.0)));
     assert_eq!((round_f32(2.5), round_f64(-2.5)), (3.0, -3.0));
@@ -208,6 +237,7 @@ fn kernels_answer() {
 fn kernels_refuse() {
     for x in [f32::INFINITY, f32::NEG_INFINITY, f32::NAN] {
         assert_eq!((exp_f32(x), exp_f64(x.into())), (Err(Refusal::Kernel), Err(Refusal::Kernel)));
+        assert_eq!(expm1_f32(x), Err(Refusal::Kernel));
         assert_eq!((pow_f32(1.0, x), pow_f64(1.0, x.into())), (Err(Refusal::Kernel), Err(Refusal::Kernel)));
     }
     for x in [f32::INFINITY, f32::NAN, 0.0, -0.0, -1.0] {
@@ -215,6 +245,20 @@ fn kernels_refuse() {
         assert_eq!((pow_f32(x, 1.0), pow_f64(x.into(), 1.0)), (Err(Refusal::Kernel), Err(Refusal::Kernel)));
     }
     assert_eq!((pow_f32(1.0, 17.0), pow_f64(1.0, -17.0)), (Err(Refusal::Kernel), Err(Refusal::Kernel)));
+}
+
+/// Where the deck was recalled at 0.9 the stability is the interval, but for two roundings, which a power of 2 leaves out.
+#[test]
+fn cards_from_sm2_are_taken() {
+    let w = Call::good().w;
+    let from = |ease, interval, retention| memory_state_from_sm2(&w, ease, interval, retention).expect("a card");
+    assert_eq!(from(1.0, 4.0, 0.9), State { stability: 4.0, difficulty: 10.0 });
+    assert_eq!(from(1000.0, 65536.0, 0.9), State { stability: 65536.0, difficulty: 1.0 });
+    let short = from(2.5, 0.0001, 0.5);
+    assert!(short.stability > 0.0 && short.stability < 0.0001);
+    for interval in [0.0, -5.0, -3e38] {
+        assert_eq!(from(2.5, interval, 0.5), short);
+    }
 }
 
 /// Document 01's values to prove, 5 to 10 and 12.

@@ -89,6 +89,7 @@ fn study() {
         let a = words.rest();
         let (x, y, z) = (single(a[0]), single(a[1]), single(a[2]));
         let one = |answer| outcome(answer, |x| vec![single_bits(x)]);
+        let two = |answer| outcome(answer, |q: State| vec![single_bits(q.stability), single_bits(q.difficulty)]);
         let is = match letter {
             'F' => {
                 let filled = outcome(check_and_fill_parameters(w), |w| w.map(single_bits).to_vec());
@@ -105,10 +106,9 @@ fn study() {
             'D' => one(next_difficulty(w, x, a[1] as u32)),
             'N' => {
                 let state = State { stability: x, difficulty: y };
-                outcome(next_state(w, state, z, a[3] as u32), |q| {
-                    vec![single_bits(q.stability), single_bits(q.difficulty)]
-                })
+                two(next_state(w, state, z, a[3] as u32))
             }
+            'P' => two(memory_state_from_sm2(w, x, y, z)),
             _ => return None,
         };
         let answers = if a[4] == 0 { a[5..5 + is.1.len()].to_vec() } else { vec![] };

@@ -1,12 +1,13 @@
-// exp, ln, pow, the fused multiply-add and rounding to a whole number, single and double. exp, ln and pow answer a NaN,
-// refusal 10, outside their domain and nowhere else.
+// exp, ln, pow, the fused multiply-add and rounding to a whole number, single and double, and exp less 1 in single. exp, ln, pow
+// and expm1 answer a NaN, refusal 10, outside their domain and nowhere else.
 ghost use mathlib.Core.Path.{_≡_};
 ghost use lib.Ieee.{binary32, binary64};
-ghost use Rattle.kernels.specs.Kernels.{expDef, lnDef, powDef};
+ghost use Rattle.kernels.specs.Kernels.{expDef, expm1Def, lnDef, powDef};
 ghost use Rattle.soft.specs.Fma.{fmaDef};
 ghost use Rattle.soft.specs.HalfAway.{roundDef};
 use kernels::exp::exp_f32;
 use kernels::exp::exp_f64;
+use kernels::expm1::expm1_f32;
 use kernels::ln::ln_f32;
 use kernels::ln::ln_f64;
 use kernels::pow::pow_f32;
@@ -28,6 +29,13 @@ pub extern "C" fn fsrs_exp_f64(x: f64) -> f64
     ensures { λ r. ⌜ r ≡ expDef binary64 x ⌝ }
 {
     exp_f64(x)
+}
+
+#[no_mangle]
+pub extern "C" fn fsrs_expm1_f32(x: f32) -> f32
+    ensures { λ r. ⌜ r ≡ expm1Def x ⌝ }
+{
+    expm1_f32(x)
 }
 
 #[no_mangle]

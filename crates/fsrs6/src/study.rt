@@ -11,6 +11,7 @@ ghost use Rattle.model_v6.specs.Answers.{
   meanReversionScalar,
   nextDifficultyScalar,
   nextStateScalar,
+  sm2Scalar,
 };
 ghost use Rattle.model_v6.specs.Filling.{fillAnswer};
 use crate::places::put_f32;
@@ -21,6 +22,7 @@ use model_v6::difficulty::init_difficulty_scalar;
 use model_v6::difficulty::mean_reversion_scalar;
 use model_v6::difficulty::next_difficulty_scalar;
 use model_v6::filling::check_and_fill_parameters_fsrs6;
+use model_v6::sm2::memory_state_from_sm2_scalar;
 use model_v6::stability::stability_after_failure_scalar;
 use model_v6::stability::stability_after_success_scalar;
 use model_v6::stability::stability_short_term_scalar;
@@ -193,5 +195,27 @@ pub extern "C" fn fsrs_next_state(
     let next = a.state;
     put_f32(next_stability, a.refusal, next.stability);
     put_f32(next_difficulty, a.refusal, next.difficulty);
+    a.refusal
+}
+
+#[no_mangle]
+pub extern "C" fn fsrs_memory_state_from_sm2(
+    w: &[f32],
+    ease_factor: f32,
+    interval: f32,
+    sm2_retention: f32,
+    stability: &mut f32,
+    difficulty: &mut f32,
+) -> u32
+    ensures { λ n. ⌜
+        (let a = sm2Scalar (now (w .entry)) «ease_factor» interval «sm2_retention» in
+        (n ≡ a .refusal) ×
+        (now (stability .exit) ≡ written (a .refusal) (a .state .stability) (now (stability .entry))) ×
+        (now (difficulty .exit) ≡ written (a .refusal) (a .state .difficulty) (now (difficulty .entry)))) ⌝ }
+{
+    let a = memory_state_from_sm2_scalar(w, ease_factor, interval, sm2_retention);
+    let state = a.state;
+    put_f32(stability, a.refusal, state.stability);
+    put_f32(difficulty, a.refusal, state.difficulty);
     a.refusal
 }

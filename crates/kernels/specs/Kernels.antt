@@ -1,9 +1,10 @@
--- exp, ln and pow, to the last bit. A refusal (10) is the NaN, and nothing else is. Assumes nothing.
+-- exp, ln and pow, and exp less 1, to the last bit. A refusal (10) is the NaN, and nothing else is. Assumes nothing.
 use Prim.Native.Nat.{ℕ, zero, suc, _*_, _/_, _^_}
 use mathlib.Core.Bool.{Bool, true, false, _&&_, cond}
 use lib.IntN.{ℤ, pos, natAbs, _*ℤ_}
 use lib.Signed.{shrZ}
-use lib.Ieee.{Float, nan, inf, fin, Format, binary32, binary64, unlike, up, down, round, le}
+use lib.Ieee.{Float, nan, inf, fin, Format, binary32, binary64, unlike, up, down, round, ofBits, neg, sub, le, lt}
+use Rattle.soft.specs.Narrow.{narrowDef}
 use Rattle.table.specs.Exact.{N}
 use Rattle.table.specs.Whole.{signed, below0}
 use Rattle.kernels.specs.Power.{hi, power}
@@ -20,6 +21,21 @@ unfolding power turns
 expDef f nan = nan
 expDef f (inf s) = nan
 expDef f (fin s m e) = power f (signed s (turns f (m * up e) (down e)))
+
+-- 2 ^ -24
+abbrev pub TINY : Float
+TINY = ofBits binary32 0x3380_0000
+
+abbrev pub one64 : Float
+one64 = ofBits binary64 0x3ff0_0000_0000_0000
+
+-- between -2 ^ -24 and 2 ^ -24
+abbrev pub tiny : Float → Bool
+tiny x = lt (neg TINY) x && lt x TINY
+
+-- exp x - 1 of a single: next to 0 the argument itself, elsewhere exp in double, less 1, rounded to single
+unfoldable pub expm1Def : Float → Float
+expm1Def x = cond (tiny x) x (narrowDef binary32 (sub binary64 (expDef binary64 x) one64))
 
 -- z / 2 ^ u, rounded once
 abbrev pub nearestOf : Format → ℤ → ℕ → Float

@@ -6,4 +6,5 @@ pub mod Finish
 pub mod Exp
 pub mod Ends
 pub mod Ln
+pub mod minus
 pub mod Kernels

@@ -1,5 +1,5 @@
--- What is promised of exp, ln and pow, from document 01, 'Exact values behind the kernels', and in double from change request K4. The code is proved equal to expDef, lnDef
--- and powDef (kernels/specs); these statements are about those definitions. Their proofs stand in proofs/Distances. Assumes nothing.
+-- What is promised of exp, ln and pow, from document 01, 'Exact values behind the kernels', in double from change request K4, and of exp less 1 from K1. The code is proved
+-- equal to expDef, expm1Def, lnDef and powDef (kernels/specs); these statements are about those definitions. Their proofs stand in proofs/Distances. Assumes nothing.
 use mathlib.Core.Path.{_≡_}
 use mathlib.Core.Bool.{Bool, true, false, not, _&&_, Bool·beq, cond}
 use Prim.Native.Nat.{ℕ, zero, suc, _+_, _-_, _*_, _^_, _≤_}
@@ -7,8 +7,8 @@ use lib.Dec.{T}
 use lib.IntN.{ℤ, pos}
 use lib.Ieee.{Float, nan, inf, fin, Format, binary32, binary64, unlike, up, down, fits, isNan, le}
 use lib.Ieee.Scale.{finite}
-use Rattle.table.specs.Exact.{Frac, Signed, E, L}
-use Rattle.kernels.specs.Kernels.{expDef, lnDef, powDef, powered}
+use Rattle.table.specs.Exact.{Frac, Signed, minusFrac, E, L}
+use Rattle.kernels.specs.Kernels.{expDef, expm1Def, lnDef, powDef, powered}
 
 -- ---- distances
 -- y is a number, not negative, and within 2 ^ -p * q of the fraction q: (1 - 2 ^ -p) q ≤ y ≤ (1 + 2 ^ -p) q
@@ -146,3 +146,20 @@ pub record Kernels (f : Format) : Type 0 where
   pub pow-zero : PowZero f
   pub pow-at-most-one : PowAtMostOne f
   pub pow-refuses : PowRefuses f
+
+-- ---- exp less 1, in single
+-- E(±a / b) - 1
+abbrev pub EMinus : Bool → (a b : ℕ) → Signed
+EMinus s a b = minusFrac (E s a b .num) (E s a b .den) (E s a b .den)
+
+-- 'for |x| <= 86 within 2^-23 |E(x) - 1| + 2^-48 of the exact value, and exactly 0 at ±0' (change request K1): the zero that was given. From 89 on
+-- it is +infinity, from -89 on -1, and the NaN, refusal 10, stands exactly outside the domain
+pub record Minus : Type 0 where
+  pub near :
+      (s : Bool) (m : ℕ) (e : ℤ) → T (fits binary32 (fin s m e)) → m * up e ≤ 86 * down e
+      → Close 23 48 (expm1Def (fin s m e)) (EMinus s (m * up e) (down e))
+  pub at-zero : (s : Bool) → expm1Def (fin s 0 (pos 0)) ≡ fin s 0 (pos 0)
+  pub ends :
+      (s : Bool) (m : ℕ) (e : ℤ) → T (fits binary32 (fin s m e)) → 89 * down e ≤ m * up e
+      → expm1Def (fin s m e) ≡ cond s (fin true 1 (pos 0)) (inf false)
+  pub refuses : (x : Float) → isNan (expm1Def x) ≡ not (finite x)

@@ -1,17 +1,18 @@
--- What the entries of model_v6.rs answer, by document 01's refusals: 1 and 2 for the weights, then 13 for an argument. A refusal
--- gives +0.0. Assumes nothing.
+-- What the entries of model_v6.rs answer, by document 01's refusals: 1 and 2 for the weights, then 13 for an argument, and change request K1's 14
+-- for a deck from SM-2. A refusal gives +0.0. Assumes nothing.
 use Prim.Native.Nat.{ℕ}
 use mathlib.Core.Bool.{Bool, _&&_, cond}
 use mathlib.Core.List.{List}
 use lib.Dec.{eqb, leb}
 use lib.Ieee.{Float}
 use lib.Ieee.Scale.{finite}
-use Rattle.domain.specs.Floats.{within}
-use Rattle.domain.specs.Limits.{zero32, one, dayGood, stabilityGood, difficultyGood}
+use Rattle.domain.specs.Floats.{within, clampDef}
+use Rattle.domain.specs.Limits.{zero32, one, D_MIN, D_MAX, dayGood, stabilityGood, difficultyGood}
 use Rattle.domain.specs.Weights.{weightsRefusal}
 use Rattle.model_v6.specs.Curve.{curveDef, intervalDef}
 use Rattle.model_v6.specs.Difficulty.{initDifficultyDef, meanReversionDef, nextDifficultyDef}
 use Rattle.model_v6.specs.NextState.{nextStateDef}
+use Rattle.model_v6.specs.Sm2.{sm2Raw}
 use Rattle.model_v6.specs.Stability.{stabilityAfterSuccess, stabilityAfterFailure, stabilityShortTerm}
 use Rattle.model_v6.specs.declared.answers.Scalar.{Scalar}
 use Rattle.model_v6.specs.declared.state.MemoryState.{MemoryState}
@@ -82,3 +83,18 @@ nextDifficultyScalar w d rating = scalarDef w (difficultyGood d && gradeGood rat
 -- any rating is taken: 'clamps any whole rating to 1-4'
 unfoldable pub nextStateScalar : (w : List Float) (state : MemoryState) (delta-t : Float) (rating : ℕ) → NextState
 nextStateScalar w state delta-t rating = stateDef w (finiteMemory state && dayGood delta-t) (nextStateDef w state delta-t rating)
+
+-- memory_state_from_sm2_scalar: 'if !stability.is_finite() || !difficulty.is_finite()', asked before the clamp, is 14, after 1, 2 and 13
+unfoldable pub sm2Refusal : (w : List Float) (ease interval retention : Float) → ℕ
+sm2Refusal w ease interval retention =
+    let n = scalarRefusal w ((finite ease && finite interval) && finite retention) in
+    cond (eqb n 0) (cond (finiteMemory (sm2Raw w ease interval retention)) 0 14) n
+
+-- the stability as it is, difficulty.clamp(D_MIN, D_MAX)
+abbrev pub sm2Held : MemoryState → MemoryState
+sm2Held m = record { stability = m .stability; difficulty = clampDef (m .difficulty) D_MIN D_MAX }
+
+unfoldable pub sm2Scalar : (w : List Float) (ease interval retention : Float) → NextState
+sm2Scalar w ease interval retention =
+    let n = sm2Refusal w ease interval retention in
+    cond (eqb n 0) (acceptedState (sm2Held (sm2Raw w ease interval retention))) (refusedState n)

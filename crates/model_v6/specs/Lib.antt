@@ -3,4 +3,5 @@ pub mod Curve
 pub mod Difficulty
 pub mod Filling
 pub mod NextState
+pub mod Sm2
 pub mod Stability

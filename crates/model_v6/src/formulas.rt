@@ -1,4 +1,5 @@
 pub mod curve;
 pub mod difficulty;
+pub mod sm2;
 pub mod stability;
 pub mod state;

@@ -6,5 +6,6 @@ pub mod difficulty;
 pub mod filling;
 // The Rust's formulas on 21 weights, total, with an equation each; the modules beside this one put the checks in front.
 mod formulas;
+pub mod sm2;
 pub mod stability;
 pub mod state;

@@ -1,6 +1,6 @@
 // The state after a review, with its checks.
 ghost use mathlib.Core.Path.{_≡_};
-ghost use Rattle.model_v6.specs.Answers.{finiteMemory, nextStateScalar};
+ghost use Rattle.model_v6.specs.Answers.{finiteMemory, refusedState, nextStateScalar};
 use crate::answers::scalar_refusal;
 use crate::formulas::state::next_state;
 use domain::floats::is_finite;
@@ -20,10 +20,23 @@ pub struct NextState {
     pub state: MemoryState,
 }
 
-fn is_finite_state(state: MemoryState) -> bool
+pub(crate) fn is_finite_state(state: MemoryState) -> bool
     ensures { λ r. ⌜ r ≡ finiteMemory state ⌝ }
 {
     both(is_finite(state.stability), is_finite(state.difficulty))
+}
+
+pub(crate) fn refused_state(n: u32) -> NextState
+    ensures { λ r. ⌜ r ≡ refusedState n ⌝ }
+{
+    let zero = MemoryState {
+        stability: 0.0,
+        difficulty: 0.0,
+    };
+    NextState {
+        refusal: n,
+        state: zero,
+    }
 }
 
 // The state after a review `delta_t` days after the last one. Any rating is taken, and clamped to 1-4.
@@ -32,14 +45,7 @@ pub fn next_state_scalar(w: &[f32], state: MemoryState, delta_t: f32, rating: u3
 {
     let n = scalar_refusal(w, both(is_finite_state(state), is_day(delta_t)));
     if n != 0 {
-        let zero = MemoryState {
-            stability: 0.0,
-            difficulty: 0.0,
-        };
-        return NextState {
-            refusal: n,
-            state: zero,
-        };
+        return refused_state(n);
     }
     let v = copy_weights(w);
     let next = next_state(&v, state, delta_t, rating);

@@ -3,6 +3,7 @@ use Rattle.outcomes.specs.Outcome.{One, one}
 use Rattle.outcomes.proofs.Tuples.{_⨾_, none, end}
 use Rattle.fsrs6.proofs.arithmetic.fsrs_exp_f32
 use Rattle.fsrs6.proofs.arithmetic.fsrs_exp_f64
+use Rattle.fsrs6.proofs.arithmetic.fsrs_expm1_f32
 use Rattle.fsrs6.proofs.arithmetic.fsrs_ln_f32
 use Rattle.fsrs6.proofs.arithmetic.fsrs_ln_f64
 use Rattle.fsrs6.proofs.arithmetic.fsrs_pow_f32
@@ -14,6 +15,7 @@ use Rattle.fsrs6.proofs.arithmetic.fsrs_round_f64
 use Rattle.fsrs6.proofs.study.fsrs_power_forgetting_curve
 use Rattle.fsrs6.proofs.study.fsrs_next_interval
 use Rattle.fsrs6.proofs.study.fsrs_next_state
+use Rattle.fsrs6.proofs.study.fsrs_memory_state_from_sm2
 use Rattle.fsrs6.proofs.study.fsrs_check_and_fill_parameters
 use Rattle.fsrs6.proofs.study.fsrs_stability_after_success
 use Rattle.fsrs6.proofs.study.fsrs_stability_after_failure
@@ -35,6 +37,9 @@ one-fsrs-exp-f32 = one (λ κs a o c. c ⨾ none ⨾ end)
 
 pub one-fsrs-exp-f64 : One fsrs_exp_f64.Kinds.ps fsrs_exp_f64.Kinds.r fsrs_exp_f64.Reads.Post
 one-fsrs-exp-f64 = one (λ κs a o c. c ⨾ none ⨾ end)
+
+pub one-fsrs-expm1-f32 : One fsrs_expm1_f32.Kinds.ps fsrs_expm1_f32.Kinds.r fsrs_expm1_f32.Reads.Post
+one-fsrs-expm1-f32 = one (λ κs a o c. c ⨾ none ⨾ end)
 
 pub one-fsrs-ln-f32 : One fsrs_ln_f32.Kinds.ps fsrs_ln_f32.Kinds.r fsrs_ln_f32.Reads.Post
 one-fsrs-ln-f32 = one (λ κs a o c. c ⨾ none ⨾ end)
@@ -69,6 +74,9 @@ one-fsrs-next-interval = one (λ κs a o c. c .0 ⨾ none ⨾ none ⨾ none ⨾ 
 
 pub one-fsrs-next-state : One fsrs_next_state.Kinds.ps fsrs_next_state.Kinds.r fsrs_next_state.Reads.Post
 one-fsrs-next-state = one (λ κs a o c. c .0 ⨾ none ⨾ none ⨾ none ⨾ none ⨾ none ⨾ c .1 ⨾ c .2 ⨾ end)
+
+pub one-fsrs-memory-state-from-sm2 : One fsrs_memory_state_from_sm2.Kinds.ps fsrs_memory_state_from_sm2.Kinds.r fsrs_memory_state_from_sm2.Reads.Post
+one-fsrs-memory-state-from-sm2 = one (λ κs a o c. c .0 ⨾ none ⨾ none ⨾ none ⨾ none ⨾ c .1 ⨾ c .2 ⨾ end)
 
 pub one-fsrs-check-and-fill-parameters : One fsrs_check_and_fill_parameters.Kinds.ps fsrs_check_and_fill_parameters.Kinds.r fsrs_check_and_fill_parameters.Reads.Post
 one-fsrs-check-and-fill-parameters = one (λ κs a o c. c .0 ⨾ none ⨾ c .1 ⨾ end)

@@ -14,10 +14,12 @@ use Rattle.soft.proofs.half_away.round_f64
 use Rattle.soft.proofs.half_away.round_f32
 use Rattle.soft.proofs.fma.fma_f64
 use Rattle.soft.proofs.fma.fma_f32
+use Rattle.soft.proofs.narrow.narrow
 use Rattle.table.proofs.entry_at
 use Rattle.table.proofs.index.index_at
 use Rattle.kernels.proofs.exp.exp_f64
 use Rattle.kernels.proofs.exp.exp_f32
+use Rattle.kernels.proofs.expm1.expm1_f32
 use Rattle.kernels.proofs.pow_ln.pow_ln_f64
 use Rattle.kernels.proofs.ln.ln_f64
 use Rattle.kernels.proofs.ln.ln_f32
@@ -64,6 +66,10 @@ one-fma-f64 = one (λ κs a o c. c ⨾ none ⨾ none ⨾ none ⨾ end)
 pub one-fma-f32 : One fma_f32.Kinds.ps fma_f32.Kinds.r fma_f32.Reads.Post
 one-fma-f32 = one (λ κs a o c. c ⨾ none ⨾ none ⨾ none ⨾ end)
 
+-- soft::narrow
+pub one-narrow : One narrow.Kinds.ps narrow.Kinds.r narrow.Reads.Post
+one-narrow = one (λ κs a o c. c ⨾ none ⨾ end)
+
 -- table
 pub one-entry-at : One entry_at.Kinds.ps entry_at.Kinds.r entry_at.Reads.Post
 one-entry-at = one (λ κs a o c. c ⨾ none ⨾ end)
@@ -78,6 +84,10 @@ one-exp-f64 = one (λ κs a o c. c ⨾ none ⨾ end)
 
 pub one-exp-f32 : One exp_f32.Kinds.ps exp_f32.Kinds.r exp_f32.Reads.Post
 one-exp-f32 = one (λ κs a o c. c ⨾ none ⨾ end)
+
+-- kernels::expm1
+pub one-expm1-f32 : One expm1_f32.Kinds.ps expm1_f32.Kinds.r expm1_f32.Reads.Post
+one-expm1-f32 = one (λ κs a o c. c ⨾ none ⨾ end)
 
 -- kernels::pow_ln
 pub one-pow-ln-f64 : One pow_ln_f64.Kinds.ps pow_ln_f64.Kinds.r pow_ln_f64.Reads.Post

@@ -1,5 +1,6 @@
 -- Why the promises hold.
 pub mod reading
 pub mod Frozen
+pub mod Imported
 pub mod Twelve
 pub mod Promises

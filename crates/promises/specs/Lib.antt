@@ -1,5 +1,6 @@
 pub mod CallReads
 pub mod Frozen
+pub mod Imported
 pub mod LossCalls
 pub mod Promises
 pub mod Twelve

@@ -1,9 +1,10 @@
 -- What is promised of the definitions that the code is proved to equal. docs/PROMISES.md tells it in words, with what
 -- crates/outcomes says of the contracts themselves. Assumes nothing.
 use lib.Ieee.{Format}
-use Rattle.laws.specs.Distances.{Kernels}
+use Rattle.laws.specs.Distances.{Kernels, Minus}
 use Rattle.promises.specs.Twelve.{Twelve}
 use Rattle.promises.specs.Frozen.{Demand3}
+use Rattle.promises.specs.Imported.{Imported}
 
 pub record Promises : Type 0 where
   -- demand 2: exp, ln and pow 'lie within document 01's distances of its exact fractions', in single and in double (laws/specs/Distances.antt)
@@ -12,3 +13,6 @@ pub record Promises : Type 0 where
   pub twelve-values : Twelve
   -- demand 3, for both kinds of loss call (Frozen.antt)
   pub frozen-weights : Demand3
+  -- change request K1: exp less 1 within its distance (laws/specs/Distances.antt), and a deck from SM-2 (Imported.antt)
+  pub exp-less-one : Minus
+  pub from-sm2 : Imported

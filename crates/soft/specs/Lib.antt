@@ -1,5 +1,6 @@
 pub mod Fma
 pub mod HalfAway
+pub mod Narrow
 pub mod Units
 pub mod Value
 pub mod inner

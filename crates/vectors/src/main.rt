@@ -168,8 +168,9 @@ fn run_study() {
         is_stability is_difficulty is_day weights_refusal all_finite default_weights copy_weights \
         check_and_fill_parameters_fsrs6 power_forgetting_curve_scalar next_interval_scalar \
         stability_after_success_scalar stability_after_failure_scalar stability_short_term_scalar \
-        init_difficulty_scalar mean_reversion_scalar next_difficulty_scalar next_state_scalar malformed ";
-    run_list(Kind::Study, b"study", b"cxnfiosvdpqtbaukFCISLTEMDN", names);
+        init_difficulty_scalar mean_reversion_scalar next_difficulty_scalar next_state_scalar \
+        memory_state_from_sm2_scalar malformed ";
+    run_list(Kind::Study, b"study", b"cxnfiosvdpqtbaukFCISLTEMDNP", names);
 }
 
 fn run_losses(name: &[u8]) {
@@ -181,8 +182,8 @@ fn main() {
     run_list(
         Kind::Arithmetic,
         b"arithmetic",
-        b"FfRr",
-        b"fma_f64 fma_f32 round_f64 round_f32 malformed ",
+        b"FfRrn",
+        b"fma_f64 fma_f32 round_f64 round_f32 narrow malformed ",
     );
     run_study();
     run_list(

@@ -96,6 +96,7 @@ fn model_passes(letter: u8, k: &[u64; 640], w: &[f32]) -> bool {
             model_v6::difficulty::next_difficulty_scalar(w, x, u32_of(k[1])),
         ),
         b'N' => state_passes(k, w),
+        b'P' => is_state(k, model_v6::sm2::memory_state_from_sm2_scalar(w, x, y, z)),
         _ => false,
     }
 }

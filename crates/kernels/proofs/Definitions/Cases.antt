@@ -1,18 +1,20 @@
--- The definitions, case by case: what `powered` asks, and `powDef` in its domain. Assumes nothing.
-use mathlib.Core.Path.{_≡_, sym, ap}
+-- The definitions, case by case: what `powered` and `tiny` ask, and `powDef` in its domain. Assumes nothing.
+use mathlib.Core.Path.{_≡_, refl, sym, ap, _∙_}
 use mathlib.Core.Bool.{Bool, true, false, cond, _&&_, _||_}
 use mathlib.Core.Logic.{_⊎_, inl, inr}
-use Prim.Native.Nat.{ℕ, suc, _*_, _^_, _≤_}
+use Prim.Native.Nat.{ℕ, suc, _+_, _*_, _^_, _≤_, _<_}
 use native.Mathlib.Nat.{le-trans, le-of-eq, le-of-lt, mul-one}
+use native.Mathlib.Omega.{arith}
+use borrow.Author.Tests.{lt-ltb}
 use lib.Dec.{T, ltb, eqb, ltb→lt, eqb→eq}
 use lib.IntN.{ℤ, pos}
-use lib.Ieee.{Float, nan, inf, fin, Format, up, down, le, lt, eq}
+use lib.Ieee.{Float, nan, inf, fin, Format, up, down, neg, ofBits, le, lt, eq}
 use lib.Ieee.Bits.{is-true}
-use lib.Ieee.Fits.{and-l, and-r}
+use lib.Ieee.Fits.{and-l, and-r, down-pos}
 use lib.Ieee.Scale.{finite}
 use mir.Facts.{or-yes}
 use Rattle.kernels.specs.Logarithm.{stepLog}
-use Rattle.kernels.specs.Kernels.{powered, powAt, powDef}
+use Rattle.kernels.specs.Kernels.{tiny, powered, powAt, powDef}
 
 -- ---- an exponent from -16 to 16
 pub powered-finite : (y : Float) → T (powered y) → T (finite y)
@@ -48,3 +50,21 @@ at-most-16 t n d h = le-trans (le-of-eq (sym (mul-one (n * up d)))) (go t h)
 pub in-domain : (f : Format) (m : ℕ) (e : ℤ) (y : Float) → T (powered y) → powDef f (fin false (suc m) e) y ≡ powAt f (stepLog f (suc m) e) y
 unfolding powDef
 in-domain f m e y h = ap (λ (b : Bool). cond b (powAt f (stepLog f (suc m) e) y) nan) (is-true (powered y) h)
+
+-- ---- exp less 1: which arguments are its own answer, those below 2 ^ -24 in size
+pub tiny-is : (s : Bool) (m : ℕ) (e : ℤ) → tiny (fin s m e) ≡ ltb (m * up e * 2 ^ 24) (1 * 1 * down e)
+unfolding lt neg ofBits
+tiny-is false m e = ap (λ (b : Bool). b && ltb (m * up e * 2 ^ 24) (1 * 1 * down e)) (lt-ltb 0 (1 * 1 * down e + m * up e * 2 ^ 24) (some (m * up e * 2 ^ 24) (down e) (down-pos e)))
+  where
+    some : (x d : ℕ) → 0 < d → 0 < 1 * 1 * d + x
+    some x d h = omega arith
+tiny-is true m e =
+    ap (λ (b : Bool). ltb (m * up e * 2 ^ 24) (1 * 1 * down e) && b) (lt-ltb 0 (m * up e * 2 ^ 24 + 1 * 1 * down e) (some (m * up e * 2 ^ 24) (down e) (down-pos e)))
+    ∙ and-true (ltb (m * up e * 2 ^ 24) (1 * 1 * down e))
+  where
+    some : (x d : ℕ) → 0 < d → 0 < x + 1 * 1 * d
+    some x d h = omega arith
+
+    and-true : (b : Bool) → (b && true) ≡ b
+    and-true true = refl
+    and-true false = refl

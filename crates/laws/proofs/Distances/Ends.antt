@@ -119,10 +119,10 @@ exp-refuses f nan = refl
 exp-refuses f (inf s) = refl
 exp-refuses f (fin s m e) = ap isNan (power-is f s (turns f (m * up e) (down e))) ∙ power-number f s (turns f (m * up e) (down e))
 
-quotient : (r s b k : ℕ) → zero < b → r * b ≤ s → r * k ≤ s * k / b
+pub quotient : (r s b k : ℕ) → zero < b → r * b ≤ s → r * k ≤ s * k / b
 quotient r s b k z h = le-div-iff-mul-le z .1 (le-trans (le-of-eq (mul-right-comm r k b)) (mul-le-mul-right k h))
 
-past-three : (h g v k u w : ℕ) → v * k < (h + 3) * w → u ≤ v → (g + 3) * w ≤ u * k → g ≤ h
+pub past-three : (h g v k u w : ℕ) → v * k < (h + 3) * w → u ≤ v → (g + 3) * w ≤ u * k → g ≤ h
 past-three h g v k u w l m c = omega (arith, lt-of-mul-lt-mul-right w (lt-of-le-of-lt (le-trans c (mul-le-mul-right k m)) l))
 
 turns-far : (f : Format) (s b : ℕ) → zero < b → edge f * b ≤ s → least f ≤ turns f s b

@@ -26,7 +26,7 @@ use Rattle.laws.proofs.Distances.logarithm.Size.{digits-below, L-size}
 use Rattle.laws.proofs.Distances.logarithm.Joined.{log-near}
 
 -- ---- numbers alone: x / e the result, g / t the whole logarithm, v / w the exact one, k = 2 ^ prec
-less-by : (a b c k : ℕ) → a * k ≤ b * k + c → (a - b) * k ≤ c
+pub less-by : (a b c k : ℕ) → a * k ≤ b * k + c → (a - b) * k ≤ c
 less-by a b c k h = go (leb b a) (leb→le b a) (nleb→lt b a)
   where
     go : (t : Bool) → (T t → b ≤ a) → (T (not t) → a < b) → (a - b) * k ≤ c
@@ -36,7 +36,7 @@ less-by a b c k h = go (leb b a) (leb→le b a) (nleb→lt b a)
         from d e = omega (arith, h, ap (λ (x : ℕ). x * k) e)
     go false l n = le-trans (le-of-eq (ap (λ (x : ℕ). x * k) (omega (arith, n tt)) ∙ zero-mul k)) zero-le
 
-both : (x v c y : ℕ) → (x - v) * c ≤ y → (v - x) * c ≤ y → (x - v + (v - x)) * c ≤ y
+pub both : (x v c y : ℕ) → (x - v) * c ≤ y → (v - x) * c ≤ y → (x - v + (v - x)) * c ≤ y
 both x v c y h g = go (leb x v) (leb→le x v) (nleb→lt x v)
   where
     one : (x v : ℕ) → x ≤ v → x - v + (v - x) ≡ v - x

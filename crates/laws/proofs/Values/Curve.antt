@@ -39,6 +39,10 @@ neg-least j nan p h = absurd p
 neg-least j (inf s) p h = absurd p
 neg-least j (fin s m e) p h = (tt, h)
 
+pub yes : (a b : Bool) → T a → T (a || b)
+yes true b t = tt
+yes false b t = absurd t
+
 -- a decay is not above 0
 decay-low : (y : Float) → T (positive y) → T (le (neg y) (fin false 0 (pos 0)))
 unfolding le neg
@@ -47,10 +51,6 @@ decay-low (inf s) p = absurd p
 decay-low (fin true m e) p = absurd p
 decay-low (fin false m e) p = yes (ltb 0 (m * up e * 1 + 0 * down e)) _ (lt→ltb 0 (m * up e * 1 + 0 * down e) (some (m * up e) (0 * down e) (mul-pos (ltb→lt 0 m p) (up-pos e))))
   where
-    yes : (a b : Bool) → T a → T (a || b)
-    yes true b t = tt
-    yes false b t = absurd t
-
     some : (a b : ℕ) → 0 < a → 0 < a * 1 + b
     some a b h = omega arith
 
@@ -103,10 +103,7 @@ module _ (y : Float) (p : T (positive y)) (u : Size 0 y) (l : Least 4 y) where
     base-size = add-size 39 product unit (lit< tt) product-size (lit≤ tt)
 
     product-plus : T (plus product)
-    product-plus =
-        let r = unit /ᶠ s in
-        let h : Size 14 r = div-size 0 14 unit s (lit< tt) (lit≤ tt) (positive-finite s q) g in
-        plus-mul r (curveFactor (neg y)) (size-finite 14 r h) (size-finite 25 (curveFactor (neg y)) factor-size) (plus-div unit s tt (plus-of s q)) factor-plus
+    product-plus = plus-mul (unit /ᶠ s) (curveFactor (neg y)) (plus-div unit s tt (plus-of s q)) factor-plus
 
     -- after a day
     pub after-day : T (fits binary32 y) → Size 0 (curveForward (neg y) (curveFactor (neg y)) one s .retrievability)

@@ -60,7 +60,7 @@ module _ (w11 w12 w13 w14 divisor : Float) (last : State) (r : Float) (a : Size 
   begun-size = mul-size 4 34 w11 share (lit< tt) a share-size
 
   begun-plus : T (plus (w11 *ᶠ share))
-  begun-plus = plus-mul w11 share (size-finite 4 w11 a) (size-finite 34 share share-size) (plus-of w11 a+) (plus-pow (last .d) (neg w12))
+  begun-plus = plus-mul w11 share (plus-of w11 a+) (plus-pow (last .d) (neg w12))
 
   more : T (positive (last .s +ᶠ unit))
   more =
@@ -82,10 +82,9 @@ module _ (w11 w12 w13 w14 divisor : Float) (last : State) (r : Float) (a : Size 
       let z = fin false 0 (pos 0) in
       let f = w11 *ᶠ share in
       let t = times-zero f z (size-finite 38 f begun-size) (false, refl) in
-      let n : T (finite (f *ᶠ z)) = subst (λ (x : Float). T (finite x)) (sym (t .1)) tt in
       ap (λ (x : Float). f *ᶠ x *ᶠ urge) gained
       ∙ plus-zero (f *ᶠ z *ᶠ urge) (zero-times (f *ᶠ z) urge t (size-finite 24 urge urge-size))
-      (plus-mul (f *ᶠ z) urge n (size-finite 24 urge urge-size) (plus-mul f z (size-finite 38 f begun-size) tt begun-plus tt) (plus-exp ((one -ᶠ r) *ᶠ w14)))
+      (plus-mul (f *ᶠ z) urge (plus-mul f z begun-plus tt) (plus-exp ((one -ᶠ r) *ᶠ w14)))
 
   pub lapse : lapseDef w11 w12 w13 w14 divisor last r ≡ record { s = fin false 0 (pos 0); branch = Lapse (fin false 0 (pos 0)) (last .s /ᶠ divisor) false }
   unfolding lapseDef lapseMove

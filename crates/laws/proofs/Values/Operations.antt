@@ -4,7 +4,7 @@ use mathlib.Core.Bool.{Bool, true, false, Bool·beq, cond}
 use Prim.Native.Nat.{ℕ, zero, suc, _+_, _-_, _*_, _^_, _≤_, _<_}
 use native.Mathlib.Nat.{le-trans, le-of-eq, zero-mul, mul-assoc, mul-comm, mul-mul-mul-comm, mul-pos, mul-le-mul, mul-le-mul-right, not-suc-le-zero}
 use native.Mathlib.Omega.{arith}
-use lib.Dec.{T, ltb, eqb·suc-zero}
+use lib.Dec.{T, eqb, ltb, eqb·suc-zero}
 use lib.Pow.{pow-add}
 use lib.Ieee.{Float, nan, inf, fin, binary32, unlike, up, down, neg, add, sub, mul, div}
 use lib.Ieee.Fits.{down-pos}
@@ -13,7 +13,7 @@ use lib.Ieee.Scale.{finite}
 use Rattle.soft.proofs.Rounding.Sum.{sum-is}
 use Rattle.soft.specs.inner.Cuts.{sumSign, sumSize}
 use Rattle.domain.specs.Floats.{_+ᶠ_, _-ᶠ_, _*ᶠ_, _/ᶠ_}
-use Rattle.laws.proofs.Values.Sizes.{Size, plus, plus-round, neg-size, round-size}
+use Rattle.laws.proofs.Values.Sizes.{Size, plus, plus-cond, plus-round, neg-size, round-size}
 
 pub mul-size : (j k : ℕ) (x y : Float) → j + k < 128 → Size j x → Size k y → Size (j + k) (x *ᶠ y)
 unfolding mul
@@ -25,15 +25,21 @@ mul-size j k (fin s m e) (fin t n d) l g h =
     round-size (unlike s t) (m * up e * (n * up d)) (down e * down d) (j + k) (mul-pos (down-pos e) (down-pos d)) l
     (le-trans (mul-le-mul g h) (le-of-eq (mul-mul-mul-comm (2 ^ j) (down e) (2 ^ k) (down d) ∙ ap (λ (x : ℕ). x * (down e * down d)) (sym (pow-add 2 j k)))))
 
-pub plus-mul : (x y : Float) → T (finite x) → T (finite y) → T (plus x) → T (plus y) → T (plus (x *ᶠ y))
+pub plus-mul : (x y : Float) → T (plus x) → T (plus y) → T (plus (x *ᶠ y))
 unfolding mul
-plus-mul nan y a b g h = absurd a
-plus-mul (inf s) y a b g h = absurd a
-plus-mul (fin s m e) nan a b g h = absurd b
-plus-mul (fin s m e) (inf t) a b g h = absurd b
-plus-mul (fin true m e) (fin t n d) a b g h = absurd g
-plus-mul (fin false m e) (fin true n d) a b g h = absurd h
-plus-mul (fin false m e) (fin false n d) a b g h = plus-round binary32 (m * up e * (n * up d)) (down e * down d)
+plus-mul nan y g h = tt
+plus-mul (inf true) y g h = absurd g
+plus-mul (inf false) nan g h = tt
+plus-mul (inf false) (inf true) g h = absurd h
+plus-mul (inf false) (inf false) g h = tt
+plus-mul (inf false) (fin true n d) g h = absurd h
+plus-mul (inf false) (fin false n d) g h = plus-cond (eqb n 0) nan (inf false) tt tt
+plus-mul (fin true m e) y g h = absurd g
+plus-mul (fin false m e) nan g h = tt
+plus-mul (fin false m e) (inf true) g h = absurd h
+plus-mul (fin false m e) (inf false) g h = plus-cond (eqb m 0) nan (inf false) tt tt
+plus-mul (fin false m e) (fin true n d) g h = absurd h
+plus-mul (fin false m e) (fin false n d) g h = plus-round binary32 (m * up e * (n * up d)) (down e * down d)
 
 sum-most : (s : Bool) (a : ℕ) (t : Bool) (b : ℕ) → sumSize s a t b ≤ a + b
 unfolding sumSize

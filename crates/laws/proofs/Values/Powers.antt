@@ -147,7 +147,7 @@ round-least M q h =
     subst (λ (x : Float). T (le x (round binary32 false (M * 2 ^ q) (2 ^ 31)))) one-round
     (round-mono binary32 1 1 (M * 2 ^ q) (2 ^ 31) (pow-pos 0) (pow-pos 31) (le-trans (mul-le-mul {m₁ = 1} h (pow-pos q)) (le-of-eq (sym (mul-one (M * 2 ^ q))))))
 
-power-least : (z : ℕ) → T (le unit (power binary32 (pos z)))
+pub power-least : (z : ℕ) → T (le unit (power binary32 (pos z)))
 unfolding power finish
 power-least z =
     let q = z / 2 ^ 52 in

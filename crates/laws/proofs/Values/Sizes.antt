@@ -67,7 +67,7 @@ neg-units f q k = go (ltb (q * 2 ^ k) (2 ^ (low f + suc (emax f))))
     go true = neg-odd (suc (prec f)) q k (low f)
     go false = refl
 
-neg-round : (f : Format) (a c : ℕ) → round f true a c ≡ neg (round f false a c)
+pub neg-round : (f : Format) (a c : ℕ) → round f true a c ≡ neg (round f false a c)
 neg-round f a c = round-is f true a c ∙ neg-units f _ _ ∙ ap neg (sym (round-is f false a c))
 
 pub neg-size : (k : ℕ) (x : Float) → Size k x → Size k (neg x)

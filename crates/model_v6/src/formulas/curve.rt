@@ -11,7 +11,7 @@ use soft::fma::fma_f32;
 use soft::half_away::round_f32;
 
 // 0.9^(1/decay) - 1
-fn factor(decay: f32) -> f32
+pub fn factor(decay: f32) -> f32
     ensures { λ r. ⌜ r ≡ factorDef decay ⌝ }
 {
     pow_f32(0.9, 1.0 / decay) - 1.0

@@ -1,3 +1,4 @@
+use mathlib.Core.Path.{_∙_}
 use borrow.Author.Needs.{needs}
 use Rattle.model_v6.specs.Answers.{nextStateScalar}
 use Rattle.model_v6.proofs.Next.{next-refused, next-accepted}
@@ -17,13 +18,16 @@ both-requires c κs = search needs
 scalar-refusal-requires : tie.Need-scalar-refusal-requires
 scalar-refusal-requires c κs = search needs
 
+refused-state-requires : tie.Need-refused-state-requires
+refused-state-requires c κs = search needs
+
 returns : tie.Need-returns
 unfolding nextStateScalar
 returns c =
-    let number = c .before in
+    let number = c .before .before in
     let tests = number .before in
     rw (← tests .before .before .is-finite-state .ensures, ← tests .before .is-day .ensures, ← tests .both .ensures)
-    (next-refused _ _ _ _ (number .scalar-refusal .ensures) (c .if1 .taken))
+    (c .refused-state .ensures ∙ next-refused _ _ _ _ (number .scalar-refusal .ensures) (c .before .if1 .taken))
 
 copy-weights-requires : tie.Need-copy-weights-requires
 copy-weights-requires c κs = search needs
@@ -56,6 +60,7 @@ next-state-scalar-spec =
     is-day-requires
     both-requires
     scalar-refusal-requires
+    refused-state-requires
     returns
     copy-weights-requires
     next-state-requires
