@@ -49,10 +49,12 @@ column-fits {c} {a} {b} hc ha hb =
     (lt-of-lt-of-le (add-lt-add-of-lt-of-le hc (mul-le-mul-right b (le-of-lt ha)))
     (le-trans (le-of-eq (add-comm (2 ^ 32) (2 ^ 32 * b) ∙ sym (mul-suc (2 ^ 32) b))) (le-trans (mul-le-mul-left (2 ^ 32) hb) (le-of-eq (sym (pow-add 2 32 32))))))
 
-low-lt : (u v x y : ℕ) → low-of low u v x y < 2 ^ 64
-low-lt u v x y =
-    subst (λ (n : ℕ). n + low (low u * low v) < 2 ^ 64) (sym (cut (third-of low u v x y) (2 ^ 32) (2 ^ 32) (pow-pos 32) (pow-pos 32)))
-    (digits-lt {q = third-of low u v x y % 2 ^ 32} {m = 2 ^ 32} {c = 2 ^ 32} (mod-lt (third-of low u v x y) (pow-pos 32)) (mask-lt (low u * low v) 32))
+-- a column moved up by 32 bits, and 32 bits more
+low-fits : (n m : ℕ) → Fits w64 (n * 2 ^ 32 % 2 ^ 64 + low m)
+low-fits n m =
+    fits-bits 64 tt
+    (subst (λ (k : ℕ). k + low m < 2 ^ 64) (sym (cut n (2 ^ 32) (2 ^ 32) (pow-pos 32) (pow-pos 32)))
+    (digits-lt {q = n % 2 ^ 32} {m = 2 ^ 32} {c = 2 ^ 32} (mod-lt n (pow-pos 32)) (mask-lt m 32)))
 
 -- the contract from what each call ensures
 abbrev Meets : (lo : ℕ → ℕ) → Type 0
@@ -131,9 +133,8 @@ wrapping-sub-u64-requires-4 c κs = search needs
 
 add-low : tie.Need-add-low
 add-low c =
-    let y = c .before .before .before .before .before in
-    let s = y .before .before in
-    fits-bits 64 tt (low-lt (s .args .u) (s .args .v) (y .before .wrapping-sub-u64 .result) (y .wrapping-sub-u642 .result))
+    let s = c .before .before .before .before .before .before .before in
+    low-fits _ (low (s .args .u) * low (s .args .v))
 
 returns : tie.Need-returns
 returns c =
