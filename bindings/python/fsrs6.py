@@ -44,10 +44,14 @@ Lent = Union[List[float], Buffer]  # what is written
 
 __all__ = [
     "load", "Refusal", "REFUSALS", "WEIGHTS", "RECORD", "MAX_ROWS", "MAX_COLUMNS", "FILE_BYTES", "FILE_ROWS",
+    "RECORD_STABILITY", "RECORD_DIFFICULTY", "RECORD_DAY", "RECORD_RATING", "RECORD_RETRIEVABILITY", "RECORD_PRE_STABILITY",
+    "RECORD_PRE_DIFFICULTY", "RECORD_BRANCH", "RECORD_BRANCH_RAW", "RECORD_BRANCH_OTHER", "BRANCH_PADDING", "BRANCH_FIRST",
+    "BRANCH_SAME_DAY", "BRANCH_SAME_DAY_ONE", "BRANCH_LAPSE", "BRANCH_LAPSE_FLOORED", "BRANCH_SUCCESS",
     "State", "Step", "Stepped", "StateGradient", "Prefixes", "Cards", "Gradient",
     "exp_f32", "exp_f64", "expm1_f32", "ln_f32", "ln_f64", "pow_f32", "pow_f64", "fma_f32", "fma_f64", "round_f32", "round_f64",
     "check_and_fill_parameters", "power_forgetting_curve", "next_interval", "init_difficulty", "mean_reversion", "next_difficulty",
-    "stability_after_success", "stability_after_failure", "stability_short_term", "next_state", "memory_state_from_sm2",
+    "stability_after_success", "stability_after_failure", "stability_short_term", "first_state", "next_state",
+    "memory_state_from_sm2",
     "training_step", "training_step_backward", "batch_loss", "batch_loss_and_grad", "card_loss", "card_loss_and_grad", "batch_file",
 ]
 
@@ -57,6 +61,15 @@ MAX_ROWS = 2048  # of a loss call
 MAX_COLUMNS = 512
 FILE_BYTES = 65536  # the longest batch file
 FILE_ROWS = 512
+
+# What a step's record holds, in this order, and the branch that a step took: as include/fsrs6.h has them.
+(
+    RECORD_STABILITY, RECORD_DIFFICULTY, RECORD_DAY, RECORD_RATING, RECORD_RETRIEVABILITY, RECORD_PRE_STABILITY,
+    RECORD_PRE_DIFFICULTY, RECORD_BRANCH, RECORD_BRANCH_RAW, RECORD_BRANCH_OTHER,
+) = range(RECORD)
+(
+    BRANCH_PADDING, BRANCH_FIRST, BRANCH_SAME_DAY, BRANCH_SAME_DAY_ONE, BRANCH_LAPSE, BRANCH_LAPSE_FLOORED, BRANCH_SUCCESS,
+) = range(7)
 
 # The refusals by their numbers: their names, and what they say.
 REFUSALS = {
@@ -100,7 +113,7 @@ class Refusal(ValueError):
 
 
 class State(NamedTuple):
-    """What the memory of a card is: after no review (0, 0)."""
+    """What the memory of a card is. A new card's begins with `first_state`; (0, 0) is where a history of training begins."""
 
     stability: float = 0.0  # the days after which the probability of recall is 0.9
     difficulty: float = 0.0  # from 1, easy, to 10
@@ -193,6 +206,7 @@ _CALLS = {
     "stability_after_success": "w:[f] s:f r:f d:f rating:I > f",
     "stability_after_failure": "w:[f] s:f r:f d:f > f",
     "stability_short_term": "w:[f] s:f rating:I > f",
+    "first_state": "w:[f] rating:I > f f",
     "next_state": "w:[f] stability:f difficulty:f delta_t:f rating:I > f f",
     "memory_state_from_sm2": "w:[f] ease_factor:f interval:f sm2_retention:f > f f",
     "training_step": _STEP + "> f f 10",
@@ -217,13 +231,13 @@ def load(path: Union[str, os.PathLike[str], None] = None) -> None:
 
     >>> load("/no/such/folder")
     Traceback (most recent call last):
-    FileNotFoundError: no library at /no/such/folder: give load() or FSRS6_LIB its file or folder
+    FileNotFoundError: no library at /no/such/folder: ./lib --shared writes one, load() and FSRS6_LIB name another
     """
     root = os.path.join(os.path.dirname(os.path.realpath(__file__)), "..", "..")
     place = os.fspath(path or os.environ.get("FSRS6_LIB") or os.path.join(root, "target", "lib"))
     file = os.path.abspath(os.path.join(place, "libfsrs6.so") if os.path.isdir(place) else place)
     if not os.path.exists(file):
-        raise FileNotFoundError(f"no library at {file}: give load() or FSRS6_LIB its file or folder")
+        raise FileNotFoundError(f"no library at {file}: ./lib --shared writes one, load() and FSRS6_LIB name another")
     library = ctypes.PyDLL(file)
     try:
         _functions.update({name: _declared(library, name) for name in [*_KERNELS, *_CALLS]})
@@ -619,8 +633,25 @@ def stability_short_term(w: Singles, s: float, rating: int) -> float:
     return _call("stability_short_term", w, s, rating)[0]
 
 
+def first_state(w: Singles, rating: int) -> State:
+    """The state of a new card after its first review: the stability is weight rating - 1, the difficulty the first difficulty
+    clamped to 1..10.
+
+    Refusals: WeightCount, WeightBox, Scalar.
+
+    >>> w = check_and_fill_parameters([])
+    >>> first_state(w, 3).stability == w[2], first_state(w, 1).difficulty > first_state(w, 4).difficulty
+    (True, True)
+    >>> first_state(w, 0)
+    Traceback (most recent call last):
+    fsrs6.Refusal: an argument is not finite or out of range
+    """
+    return State(*_call("first_state", w, rating))
+
+
 def next_state(w: Singles, state: State, delta_t: float, rating: int) -> State:
-    """The state after a review `delta_t` days after the last one. Any rating is taken, and clamped to 1-4.
+    """The state after a later review, `delta_t` days after the one before. The given state is clamped to its range, so that
+    (0, 0) is no new card. Any rating is taken, and clamped to 1-4.
 
     Refusals: WeightCount, WeightBox, Scalar.
 
