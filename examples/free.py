@@ -1,19 +1,131 @@
 #!/usr/bin/env python3
-"""Tells which weights no column of a batch file reads. Where ./batchgrad accepts the file, each of them may take any value inside
-its range: no loss and no gradient changes, and its own slot stays 0 (docs/PROMISES.md, 'What is not read does not count').
+"""Tells which weights no column of a batch file reads. Each of them may take any value inside its range: no loss and no gradient
+changes, and its own slot stays 0 (docs/PROMISES.md, 'What is not read does not count').
 
-    examples/free.py FILE                        their numbers, on one line
+    examples/free.py FILE                        their numbers, on one line, or `none`
     examples/free.py --moved FILE | ./batchgrad  the file with each of them at the far end of its range: the same answer
+
+What ./batchgrad refuses is refused, with the same number.
 """
-import os
 import struct
-import sys
+from itertools import accumulate
+from typing import NamedTuple
 
-sys.path.insert(0, os.path.join(os.path.dirname(os.path.abspath(__file__)), "..", "tools"))
+from shared import Wrong, read, run, say, write
+
 from floats import F32
-from rules import BOX
+from rules import BOX, REFUSALS
 
-PREFIX = 1
+PREFIX, CARD = 1, 2
+COLUMNS, ROWS, BYTES = 512, 512, 65536  # the most that a file has
+WEIGHTS = 40  # where they begin
+
+
+class Refused(Wrong):
+    """A file that ./batchgrad refuses with this number."""
+
+    def __init__(self, number, where=""):
+        super().__init__("refused %d: %s%s" % (number, where, REFUSALS[number]))
+        self.number = number
+
+
+class Batch(NamedTuple):
+    """The call that a file holds."""
+
+    kind: int
+    rows: int
+    columns: int
+    weights: tuple
+    days: tuple
+    ratings: tuple
+    lengths: tuple
+    targets: tuple
+    labels: tuple
+    reviews: tuple
+
+    def length(self, column):
+        return min(self.lengths[column], self.rows)
+
+    def steps(self, column):
+        """'Steps run on all prefix rows, and on rows 0..n-2 of a card.'"""
+        return self.length(column) if self.kind == PREFIX else max(self.length(column) - 1, 0)
+
+
+def sections(file):
+    """The file taken apart: refusal 11 where it is not what its header says."""
+    if not WEIGHTS <= len(file) <= BYTES:
+        raise Refused(11)
+    kind, rows, columns, *offsets = struct.unpack_from("<10I", file)
+    if kind not in (PREFIX, CARD) or rows > ROWS:
+        raise Refused(11)
+    cells = rows * columns
+    targets, scores = (columns, columns) if kind == PREFIX else (0, cells)
+    counts = [21, cells, cells, columns, targets, scores, scores]
+    if [*offsets, len(file)] != list(accumulate([WEIGHTS] + [4 * count for count in counts])):
+        raise Refused(11)
+    formats = ("<%d%s" % (count, letter) for count, letter in zip(counts, "fffIfff"))
+    return Batch(kind, rows, columns, *(struct.unpack_from(*part) for part in zip(formats, [file] * 7, offsets)))
+
+
+def single(text):
+    """The single nearest to a decimal, as a number."""
+    return struct.unpack("<f", struct.pack("<I", F32.decimal(text)))[0]
+
+
+def is_day(x):
+    return -100000 <= x <= 100000
+
+
+def score(weight, label):
+    """A review weight, and a label, which is read only if its weight is not 0."""
+    yield 8, 0 <= weight <= 1000000
+    yield 8, weight == 0 or 0 <= label <= 1
+
+
+def prefix_cells(x, column, row, day, rating):
+    """What is read of a row, in the order in which it is tested: a refusal's number, and whether the cell is good. The row after
+    the last is the target."""
+    if row == x.length(column):
+        yield from score(x.reviews[column], x.labels[column])
+        yield 7, x.reviews[column] == 0 or is_day(x.targets[column])
+    else:
+        yield 6, rating in (0, 1, 2, 3, 4)
+        yield 7, row == 0 or rating == 0 or is_day(day)
+
+
+def card_cells(x, column, row, day, rating):
+    """The same of a card, whose last rating is never read."""
+    weight, label = (table[row * x.columns + column] for table in (x.reviews, x.labels))
+    is_last = row == x.length(column) - 1
+    yield 6, is_last or rating in (0, 1, 2, 3, 4)
+    yield 7, row == 0 or (weight if is_last else rating) == 0 or is_day(day)
+    if row > 0:
+        yield from score(weight, label)
+
+
+def cell(x, row, column):
+    """The day and the rating, or those of padding past the table's end."""
+    place = row * x.columns + column
+    return (x.days[place], x.ratings[place]) if row < x.rows else (0, 0)
+
+
+def checked(file):
+    """The call of a file, which is tested as document 01 says, in its order: 11, 2, 3, then column by column."""
+    x = sections(file)
+    for place, (low, high) in BOX.items():
+        if not single(low) <= x.weights[place] <= single(high):
+            raise Refused(2, "weight %d: " % place)
+    if x.columns > COLUMNS:
+        raise Refused(3)
+    for column in range(x.columns):
+        if x.kind == PREFIX and x.length(column) == 0:
+            raise Refused(9, "column %d: " % column)
+        for row in range(x.length(column) + (x.kind == PREFIX)):
+            cells = (prefix_cells if x.kind == PREFIX else card_cells)(x, column, row, *cell(x, row, column))
+            number = next((number for number, is_good in cells if not is_good), 0)
+            if number:
+                raise Refused(number, "column %d, row %d: " % (column, row))
+    return x
 
 
 def weights_read(row, day, rating):
@@ -30,33 +142,33 @@ def weights_read(row, day, rating):
     return own | {4, 5, 6, 7, 20}
 
 
-def free(batch):
+def free(file):
     """The weights that no step reads, but for 20, which every call reads."""
-    kind, rows, columns, _, days, ratings, lengths = struct.unpack_from("<7I", batch)
-    read = {20}
-    for column in range(columns):
-        length = min(struct.unpack_from("<I", batch, lengths + 4 * column)[0], rows)
-        for row in range(length if kind == PREFIX else length - 1):
-            cell = 4 * (row * columns + column)
-            read |= weights_read(row, *struct.unpack_from("<f", batch, days + cell), *struct.unpack_from("<f", batch, ratings + cell))
+    x = checked(file)
+    steps = ((row, column) for column in range(x.columns) for row in range(x.steps(column)))
+    read = {20}.union(*(weights_read(row, *cell(x, row, column)) for row, column in steps))
     return [k for k in range(21) if k not in read]
 
 
-def moved(batch):
+def moved(file):
     """The file with each free weight at the end of its range that is farther from where it stands."""
-    other = bytearray(batch)
-    start, = struct.unpack_from("<I", batch, 12)
-    for k in free(batch):
-        value, = struct.unpack_from("<f", batch, start + 4 * k)
-        low, high = BOX[k]
-        struct.pack_into("<I", other, start + 4 * k, F32.decimal(max((low, high), key=lambda end: abs(float(end) - value))))
+    other = bytearray(file)
+    for k in free(file):
+        place = WEIGHTS + 4 * k
+        value, = struct.unpack_from("<f", file, place)
+        struct.pack_into("<f", other, place, max(map(single, BOX[k]), key=lambda end: abs(end - value)))
     return bytes(other)
 
 
+def main(path, **options):
+    file = read(path, BYTES)
+    if options:
+        write(moved(file))
+        return
+    line = " ".join(map(str, free(file))) or "none"
+    say("weights that no column of %s reads:" % path)
+    write(line.encode() + b"\n")
+
+
 if __name__ == "__main__":
-    with open(sys.argv[-1], "rb") as f:
-        batch = f.read()
-    if sys.argv[1] == "--moved":
-        sys.stdout.buffer.write(moved(batch))
-    else:
-        print(*free(batch))
+    run(main, __doc__, (1,), "--moved")

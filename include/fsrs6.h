@@ -4,9 +4,17 @@
  * Every function but the kernels returns the number of its refusal, 0 where the call was accepted, and writes its answers
  * through the places lent to it. A refused call writes nothing. A slice is a pointer and the number of its entries.
  *
+ * A card begins with its first review, whose rating alone gives its state: fsrs_first_state. Every later review is a call of
+ * fsrs_next_state on the state before it, and after each fsrs_next_interval tells when to show the card again.
+ * examples/new_card.c does this.
+ *
  * What C cannot check is the caller's: a pointer is not NULL and is aligned, also where the number of entries is 0; it has
- * as many entries as said; and what a call writes overlaps nothing else that was lent to it. Everything else is checked
- * here, and any bits may stand in any number.
+ * as many entries as said; what a call writes overlaps nothing else that was lent to it; and the thread's floats are as C
+ * starts them, the rounding mode to nearest and subnormals not flushed (a program linked with -ffast-math may flush them).
+ * Everything else is checked here, and any bits may stand in any number.
+ *
+ * No function keeps anything from one call to the next. So any number of calls may run at once, on any threads, as long as
+ * none writes what another reads or writes.
  */
 #ifndef FSRS6_H
 #define FSRS6_H
@@ -17,6 +25,12 @@
 #ifdef __cplusplus
 extern "C" {
 #endif
+
+/* Before the first release: names and numbers may still change. */
+#define FSRS6_VERSION_MAJOR 0
+#define FSRS6_VERSION_MINOR 1
+#define FSRS6_VERSION_PATCH 0
+#define FSRS6_VERSION "0.1.0"
 
 /* The numbers of the refusals. */
 enum {
@@ -37,6 +51,28 @@ enum {
     FSRS_IMPORT = 14         /* a card from SM-2 gets no finite state, as by a retention not inside 0..1 */
 };
 
+/* A refusal in words, for a log or a message. */
+static inline const char *fsrs_refusal_text(uint32_t number) {
+    static const char *const texts[] = {
+        "accepted",
+        "not 21 weights",
+        "a weight is outside its range",
+        "rows or columns are over the limit, or an input slice is too short",
+        "too few records or step gradients for the longest column",
+        "not 21 gradient slots",
+        "a rating is not 0, 1, 2, 3 or 4",
+        "a day is outside -100000..100000",
+        "a review weight or a label is out of range",
+        "a prefix has the length 0",
+        "an argument is outside the kernel's domain",
+        "the batch file is malformed",
+        "a weight set to fill has not 0, 17, 19 or 21 entries",
+        "an argument is not finite or out of range",
+        "a card from SM-2 gets no finite stability or difficulty",
+    };
+    return number < sizeof texts / sizeof *texts ? texts[number] : "no refusal has this number";
+}
+
 enum {
     FSRS_WEIGHTS = 21,       /* weights, and gradient slots */
     FSRS_RECORD = 10,        /* singles in the record of a step */
@@ -45,6 +81,33 @@ enum {
     FSRS_FILE_BYTES = 65536, /* the longest batch file */
     FSRS_FILE_ROWS = 512
 };
+
+/* ---- ranges. Both ends belong to a range, a decimal is the single nearest to it, and a zero of either sign is 0.
+ *
+ * The box, in which all 21 weights must lie, also those that a call does not read:
+ *
+ *     weight                 from     to
+ *     0-3                    0.0001   36500     the stability after a first review rated 1-4
+ *     4                      0        20
+ *     5                      0        4
+ *     6                      0        6
+ *     7, 9, 12, 13, 15, 19   0        1
+ *     8                      -5       5
+ *     10, 14                 0        5
+ *     11                     0.001    10
+ *     16                     1        10
+ *     17, 18                 0        3
+ *     20                     0.1      1
+ *
+ * What a review is:
+ *
+ *     day                    -100000  100000    days since the review before; need not be whole
+ *     rating                 1        4         1 forgotten, 2 hard, 3 good, 4 easy; in a history also 0, padding; whole
+ *     label                  0        1         1 where it was recalled, 0 where not
+ *     review weight          0        1000000   how much it counts in a loss
+ *
+ * A memory state: the stability is from 0.0001 to 36500, the difficulty from 1 to 10.
+ */
 
 /* ---- kernels: the answer is returned. exp, expm1, ln and pow give a NaN outside their domain (refusal 10) and nowhere
  * else: exp and expm1 want a finite argument; ln and pow a positive finite x; pow a y from -16 to 16. */
@@ -62,23 +125,36 @@ double fsrs_fma_f64(double x, double y, double z);
 /* The nearest whole number; half-way cases go away from zero. */
 float fsrs_round_f32(float x);
 double fsrs_round_f64(double x);
+/* The refusal that an answer of exp, expm1, ln or pow stands for; fma and round refuse nothing. A compiler leaves this test
+ * out where it is told that there are no NaNs (-ffast-math). */
+static inline uint32_t fsrs_kernel_refusal(double answer) {
+    return answer != answer ? FSRS_KERNEL : FSRS_ACCEPTED; /* a NaN alone is not equal to itself */
+}
 
 /* ---- weight sets. A set of 0, 17, 19 or 21 entries made 21: none gives the defaults. Refusals 12, 2. */
 uint32_t fsrs_check_and_fill_parameters(const float *parameters, size_t parameters_len, float weights[21]);
 
-/* ---- the study screen's formulas (model_v6.rs). Refusals 1, 2, 13. */
+/* ---- the study screen's formulas (model_v6.rs). Refusals 1, 2, then 13: a number that is not finite, or a day out of its
+ * range. A day is rounded to a whole one, and one below 0 is 0. */
 /* The probability of recall t days after a review that left the stability s. */
 uint32_t fsrs_power_forgetting_curve(const float *w, size_t w_len, float t, float s, float *retrievability);
-/* The days after which the desired retention is reached. */
+/* The days after which the desired retention is reached, which is clamped to 0.0001..0.9999. Not rounded. */
 uint32_t fsrs_next_interval(const float *w, size_t w_len, float stability, float desired_retention, float *days);
-uint32_t fsrs_init_difficulty(const float *w, size_t w_len, uint32_t rating, float *difficulty);
+/* A difficulty moved a little from current towards init. */
 uint32_t fsrs_mean_reversion(const float *w, size_t w_len, float init, float current, float *difficulty);
+/* The parts of a review: 13 also where the stability s, the difficulty d, the retrievability r (0 to 1) or the rating (1-4)
+ * is out of its range. The first difficulty is not clamped. */
+uint32_t fsrs_init_difficulty(const float *w, size_t w_len, uint32_t rating, float *difficulty);
 uint32_t fsrs_next_difficulty(const float *w, size_t w_len, float d, uint32_t rating, float *difficulty);
 uint32_t fsrs_stability_after_success(const float *w, size_t w_len, float s, float r, float d, uint32_t rating,
                                       float *stability);
 uint32_t fsrs_stability_after_failure(const float *w, size_t w_len, float s, float r, float d, float *stability);
 uint32_t fsrs_stability_short_term(const float *w, size_t w_len, float s, uint32_t rating, float *stability);
-/* The state after a review delta_t days after the last one. Any rating is taken, and clamped to 1-4. */
+/* The state of a new card after its first review: the stability is weight rating - 1, the difficulty the first difficulty
+ * clamped to 1..10. 13 where the rating is not 1-4. */
+uint32_t fsrs_first_state(const float *w, size_t w_len, uint32_t rating, float *stability, float *difficulty);
+/* The state after a later review, delta_t days after the one before. The given state is clamped to its range, so that (0, 0)
+ * is no new card but one of stability 0.0001. Any rating is taken, and clamped to 1-4. */
 uint32_t fsrs_next_state(const float *w, size_t w_len, float stability, float difficulty, float delta_t, uint32_t rating,
                          float *next_stability, float *next_difficulty);
 /* The state of a card from an SM-2 deck, by its ease factor, its interval in days, and the share of the deck's reviews
@@ -86,38 +162,80 @@ uint32_t fsrs_next_state(const float *w, size_t w_len, float stability, float di
 uint32_t fsrs_memory_state_from_sm2(const float *w, size_t w_len, float ease_factor, float interval, float sm2_retention,
                                     float *stability, float *difficulty);
 
-/* ---- one training step (analytic_v6.rs), at the row-th row of its history. Refusals 1, 2, 13, 6, 7. */
-/* The state after it, and its record: the state as given (stability, difficulty), day, rating, retrievability, stability
- * and difficulty before their last clamp, the branch, and the branch's two numbers. The branch is 0 padding, 1 first,
- * 2 same day, 3 same day with the multiplier 1, 4 lapse, 5 lapse floored, 6 success. */
+/* ---- one training step (analytic_v6.rs), at the row-th row of its history. The state is any two finite numbers and is
+ * clamped first. A rating of 0 is padding; at row 0 with the stability 0 any other is a first step; in these two the day
+ * goes unread. Refusals 1, 2, 13, 6, 7. */
+/* What a step's record holds, in this order. */
+enum {
+    FSRS_RECORD_STABILITY = 0,      /* the state as given */
+    FSRS_RECORD_DIFFICULTY = 1,
+    FSRS_RECORD_DAY = 2,            /* +0.0 where it goes unread */
+    FSRS_RECORD_RATING = 3,
+    FSRS_RECORD_RETRIEVABILITY = 4,
+    FSRS_RECORD_PRE_STABILITY = 5,  /* the state after the step, before its last clamp */
+    FSRS_RECORD_PRE_DIFFICULTY = 6,
+    FSRS_RECORD_BRANCH = 7,         /* a number of the list below */
+    FSRS_RECORD_BRANCH_RAW = 8,     /* same day: the raw multiplier; lapse: the raw stability; else +0.0 */
+    FSRS_RECORD_BRANCH_OTHER = 9    /* same day: the multiplier that was used; lapse: the floor; else +0.0 */
+};
+/* The branch that a step took. */
+enum {
+    FSRS_BRANCH_PADDING = 0,
+    FSRS_BRANCH_FIRST = 1,
+    FSRS_BRANCH_SAME_DAY = 2,
+    FSRS_BRANCH_SAME_DAY_ONE = 3,   /* the raw multiplier was below 1, and 1 was used */
+    FSRS_BRANCH_LAPSE = 4,
+    FSRS_BRANCH_LAPSE_FLOORED = 5,  /* the floor was below the raw stability, and was used */
+    FSRS_BRANCH_SUCCESS = 6
+};
+/* The state after a step, and its record. */
 uint32_t fsrs_training_step(const float *w, size_t w_len, float stability, float difficulty, float day, float rating,
                             size_t row, float *next_stability, float *next_difficulty, float record[10]);
 /* Its reverse: g_s and g_d are the gradients by the state after it, g_r that by its retrievability. What it gives by the
- * weights is added to the 21 slots of gw. Also refusal 5. */
+ * weights is added to the 21 slots of gw. Also refusal 5, after 2. */
 uint32_t fsrs_training_step_backward(const float *w, size_t w_len, float stability, float difficulty, float day,
                                      float rating, size_t row, double g_s, double g_d, double g_r, double *gw,
                                      size_t gw_len, double *grad_s, double *grad_d);
 
-/* ---- the losses (analytic_v6.rs). Tables are time-major: row * batch + column. seq_lens has the length of each column.
- * Refusals 1, 2, 5, 3, 4, then column by column 9, 6, 7, 8, in the order of document 01. */
+/* ---- the losses (analytic_v6.rs) of a batch of seq_len rows (0 to 2048) and batch columns (0 to 512). A column is a
+ * history that begins at row 0. t_hist has the days and r_hist the ratings; such a table is time-major: the cell of a row
+ * and a column is row * batch + column. seq_lens has the length of each column; one above the rows is cut to them. A slice
+ * may be longer than it need be.
+ *
+ * Only what is read is checked. All else may hold any bits, and changes nothing.
+ *   Of a prefix are read: each rating in its length; the days of rows 1 onward whose rating is not 0; the weight of the
+ *   scored review, and its label and day if that weight is not 0.
+ *   Of a card of length n are read: the ratings of rows 0..n-2; the days of rows 1..n-2 whose rating is not 0; the weights
+ *   of rows 1..n-1; a label if its weight is not 0; the day of row n-1 if n > 1 and its weight is not 0. Its last rating is
+ *   never read.
+ *
+ * Refusals 1, 2, 5, 3, 4; then column by column 9; row by row rating 6, day 7, weight 8, label 8; and of a prefix's scored
+ * review weight 8, label 8, day 7.
+ *
+ * The gradient is added to the 21 slots of gw. records is room for ten singles, and step_grads for a double, for each row of
+ * the longest column. records is column-major: number f of the record of row i (f is FSRS_RECORD_STABILITY or another of
+ * these) is cell f * (records_len / 10) + i. After an accepted call record i is that of the last column that stepped on row
+ * i, and step gradient i that of the last card longer than i; the others are as they were. A prefix steps on all its rows,
+ * a card on all but its last, whose step gradient is 0. */
 /* Prefixes: each column is a history, and the review after it (delta_ts, labels, weights: one a column) is scored. */
 uint32_t fsrs_batch_loss(const float *w, size_t w_len, const float *t_hist, size_t t_hist_len, const float *r_hist,
                          size_t r_hist_len, uint32_t seq_len, uint32_t batch, const uint32_t *seq_lens,
                          size_t seq_lens_len, const float *delta_ts, size_t delta_ts_len, const float *labels,
                          size_t labels_len, const float *weights, size_t weights_len, double *loss);
-/* The same loss, and its gradient added to the 21 slots of gw. records: ten singles for each row of the longest column. */
+/* The same loss, and its gradient. */
 uint32_t fsrs_batch_loss_and_grad(const float *w, size_t w_len, const float *t_hist, size_t t_hist_len,
                                   const float *r_hist, size_t r_hist_len, uint32_t seq_len, uint32_t batch,
                                   const uint32_t *seq_lens, size_t seq_lens_len, const float *delta_ts,
                                   size_t delta_ts_len, const float *labels, size_t labels_len, const float *weights,
                                   size_t weights_len, double *gw, size_t gw_len, float *records, size_t records_len,
                                   double *loss);
-/* Cards: every review of a column after its first is scored (labels, weights: tables). */
+/* Cards: every review of a column after its first is scored (labels, weights: tables). A padding row between the first and
+ * the last is scored too, at retrievability 0, unless its weight is 0. */
 uint32_t fsrs_card_loss(const float *w, size_t w_len, const float *t_hist, size_t t_hist_len, const float *r_hist,
                         size_t r_hist_len, uint32_t seq_len, uint32_t batch, const uint32_t *seq_lens,
                         size_t seq_lens_len, const float *labels, size_t labels_len, const float *weights,
                         size_t weights_len, double *loss);
-/* The same loss, and its gradient. step_grads: a double for each row of the longest column. */
+/* The same loss, and its gradient. */
 uint32_t fsrs_card_loss_and_grad(const float *w, size_t w_len, const float *t_hist, size_t t_hist_len,
                                  const float *r_hist, size_t r_hist_len, uint32_t seq_len, uint32_t batch,
                                  const uint32_t *seq_lens, size_t seq_lens_len, const float *labels, size_t labels_len,
@@ -125,7 +243,13 @@ uint32_t fsrs_card_loss_and_grad(const float *w, size_t w_len, const float *t_hi
                                  size_t records_len, double *step_grads, size_t step_grads_len, double *loss);
 
 /* ---- a batch file, run as one call of its loss with the gradient, which is added to the 21 slots of gw. Refusal 11, then
- * those of the loss. Records and step gradients are its own, with room for every file: it takes about 160 KB of the stack. */
+ * those of the loss. Records and step gradients are its own, with room for every file: it takes about 160 KB of the stack.
+ *
+ * A file is little-endian words of four bytes, at most 512 rows and 65536 bytes. Its first ten words are the kind (1
+ * prefixes, 2 cards), the rows, the columns, and at which byte each section begins: weights, days, ratings, lengths, target
+ * days (delta_ts), labels, review weights. The sections follow in this order with no gap, the first at 40, and end the file.
+ * They have as many entries as the call wants, so cards have no target days. Lengths are whole numbers, all else is the bits
+ * of a single. */
 uint32_t fsrs_batch_file(const uint8_t *file, size_t file_len, double *gw, size_t gw_len, double *loss);
 
 #ifdef __cplusplus

@@ -12,3 +12,11 @@ for low, high, places in (
     ("1", "10", (16,)), ("0", "3", (17, 18)), ("0.1", "1", (20,)),
 ):
     BOX.update((i, (low, high)) for i in places)
+
+# why a call or a file is refused, by document 01's number
+REFUSALS = {
+    1: "not 21 weights", 2: "a weight is outside its range", 3: "rows or columns are over the limit",
+    4: "too few records or step gradients", 5: "not 21 gradient slots", 6: "a rating is not 0, 1, 2, 3 or 4",
+    7: "a day is outside -100000..100000", 8: "a review weight or a label is out of range", 9: "a prefix has the length 0",
+    10: "a kernel's argument is outside its domain", 11: "the batch file is malformed",
+}

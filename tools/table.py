@@ -9,6 +9,8 @@ import sys
 from fractions import Fraction
 from math import factorial
 
+from usage import arguments
+
 N = 0xB17217F7D1CF79AB
 
 
@@ -18,11 +20,6 @@ def entry(i):
         return 2**63
     r = Fraction(i * N, 2**72)
     return int(2**62 * sum(r**j / factorial(j) for j in range(24)))
-
-
-POWERS = [entry(i) for i in range(256)]
-# the first entry at or above the end of each of 512 intervals of a significand
-FIRSTS = [next(i for i in range(257) if entry(i) >= (513 + k) << 53) for k in range(512)]
 
 
 def literal(n):
@@ -123,11 +120,16 @@ def arms(items):
 
 
 def main():
-    root = os.path.join(os.path.dirname(os.path.abspath(__file__)), "..", "crates", "table")
+    arguments("", 0, 0)
+    entries = [entry(i) for i in range(257)]
+    powers = entries[:256]
+    # the first entry at or above the end of each of 512 intervals of a significand
+    firsts = [next(i for i, x in enumerate(entries) if x >= (513 + k) << 53) for k in range(512)]
+    root = os.path.join(os.path.dirname(os.path.realpath(__file__)), "..", "crates", "table")
     for path, text in (
-        ("src/lib.rt", SOURCE % arms([literal(x) for x in POWERS])),
-        ("src/index.rt", INDEX % arms([str(x) for x in FIRSTS])),
-        ("specs/inner/Lists.antt", LISTS % (rows([f"0x{x:016x}" for x in POWERS], 6), rows([str(x) for x in FIRSTS], 20))),
+        ("src/lib.rt", SOURCE % arms([literal(x) for x in powers])),
+        ("src/index.rt", INDEX % arms([str(x) for x in firsts])),
+        ("specs/inner/Lists.antt", LISTS % (rows([f"0x{x:016x}" for x in powers], 6), rows([str(x) for x in firsts], 20))),
     ):
         path = os.path.join(root, path)
         os.makedirs(os.path.dirname(path), exist_ok=True)

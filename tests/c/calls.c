@@ -110,6 +110,10 @@ static uint32_t short_term(struct call *x) {
     return fsrs_stability_short_term(x->w, x->w_len, x->stability, x->whole_rating, &x->answer);
 }
 
+static uint32_t first_state(struct call *x) {
+    return fsrs_first_state(x->w, x->w_len, x->whole_rating, &x->answer, &x->answer_difficulty);
+}
+
 static uint32_t state(struct call *x) {
     return fsrs_next_state(x->w, x->w_len, x->stability, x->difficulty, x->day, x->whole_rating, &x->answer,
                            &x->answer_difficulty);
@@ -186,6 +190,7 @@ static const struct function functions[] = {
     {"stability_after_success", success, FORMULA},
     {"stability_after_failure", failure, FORMULA},
     {"stability_short_term", short_term, FORMULA},
+    {"first_state", first_state, FORMULA},
     {"next_state", state, FORMULA},
     {"memory_state_from_sm2", sm2, IMPORT},
     {"training_step", step, STEP},
@@ -360,6 +365,22 @@ static void refusals(void) {
     }
 }
 
+static void first_states_refused(void) {
+    const uint32_t ratings[] = {0, 5, 6, 1u << 31, UINT32_MAX};
+    for (size_t i = 0; i < sizeof ratings / sizeof *ratings; i++) {
+        struct call x = good();
+        x.whole_rating = ratings[i];
+        expect_refused("a first rating out of range", first_state, &x, FSRS_SCALAR);
+        /* the weights come first */
+        x.w[20] = 1.5f;
+        expect_refused("a weight and a first rating", first_state, &x, FSRS_WEIGHT_BOX);
+        x.w_len = FSRS_WEIGHTS - 1;
+        expect_refused("20 weights and a first rating", first_state, &x, FSRS_WEIGHT_COUNT);
+        x.w_len = 0;
+        expect_refused("no weights and a first rating", first_state, &x, FSRS_WEIGHT_COUNT);
+    }
+}
+
 static void expect_import(float ease, float interval, float retention, uint32_t number) {
     struct call x = good();
     x.ease = ease;
@@ -487,21 +508,63 @@ static void formulas(void) {
     expect_single("its difficulty", x.answer_difficulty, x.difficulty);
 }
 
-static void expect_state(const char *name, struct call x, float s, float d) {
-    expect(sm2(&x) == FSRS_ACCEPTED, "%s: refused", name);
+static void expect_state(const char *name, uint32_t (*call)(struct call *), struct call x, float s, float d) {
+    expect(call(&x) == FSRS_ACCEPTED, "%s: refused", name);
     expect_single(name, x.answer, s);
     expect_single(name, x.answer_difficulty, d);
+}
+
+/* Weights 4 and 5, and the difficulty after a first review rated 1-4 where it is known with no exp; 0 where it is not. */
+static const struct {
+    float w4, w5, difficulties[4];
+} firsts[] = {
+    {6.4133f, 0.8334f, {6.4133f, 0, 0, 1}}, /* the defaults */
+    {5, 0, {5, 5, 5, 5}},
+    {0, 0, {1, 1, 1, 1}},
+    {20, 0.25f, {10, 10, 10, 10}},
+    {20, 4, {10, 1, 1, 1}},
+    {0, 4, {1, 1, 1, 1}},
+    {10, 0.5f, {10, 0, 0, 0}},
+    {7.5f, 0.125f, {7.5f, 0, 0, 0}},
+};
+
+/* The stability is a weight; the difficulty is the first difficulty, clamped. */
+static void first_states(void) {
+    for (size_t i = 0; i < sizeof firsts / sizeof *firsts; i++) {
+        struct call x = good();
+        expect(i > 0 || (x.w[4] == firsts[0].w4 && x.w[5] == firsts[0].w5), "these are not the default weights");
+        x.w[4] = firsts[i].w4;
+        x.w[5] = firsts[i].w5;
+        for (x.whole_rating = 1; x.whole_rating <= 4; x.whole_rating++) {
+            float known = firsts[i].difficulties[x.whole_rating - 1];
+            x.w[x.whole_rating - 1] *= i % 2 ? 1.5f : 1;
+            expect(first_difficulty(&x) == FSRS_ACCEPTED, "a first difficulty was refused");
+            float d = x.answer < 1 ? 1 : x.answer > 10 ? 10 : x.answer;
+            expect_state("a first state", first_state, x, x.w[x.whole_rating - 1], known != 0 ? known : d);
+            expect(known != 0 || (d > 1 && d < 10), "a first difficulty between the ends is %g", d);
+        }
+    }
+    struct call x = good();
+    x.whole_rating = 1;
+    x.w[0] = 0.0001f;
+    expect_state("the least first stability", first_state, x, 0.0001f, x.w[4]);
+    x.w[0] = 36500;
+    expect_state("the greatest first stability", first_state, x, 36500, x.w[4]);
+    /* what the next state makes of (0, 0) is no first review */
+    x = good();
+    x.stability = x.difficulty = x.day = 0;
+    expect(state(&x) == FSRS_ACCEPTED && x.answer < 0.001f, "(0, 0) was taken for a new card");
 }
 
 /* Where the deck was recalled at 0.9 the stability is the interval, but for two roundings, which a power of 2 leaves out. */
 static void imports(void) {
     struct call x = good(), y;
     x.ease = 1;
-    expect_state("an ease of 1", x, x.day, 10);
+    expect_state("an ease of 1", sm2, x, x.day, 10);
     x.ease = 1000;
-    expect_state("an ease of 1000", x, x.day, 1);
+    expect_state("an ease of 1000", sm2, x, x.day, 1);
     x.day = 65536;
-    expect_state("a stability that is not clamped", x, 65536, 1);
+    expect_state("a stability that is not clamped", sm2, x, 65536, 1);
     x.day = 0x1p-13f;
     x.retention = 0.5f;
     sm2(&x);
@@ -514,7 +577,7 @@ static void imports(void) {
     for (size_t i = 0; i < sizeof below / sizeof *below; i++) {
         y = good();
         y.day = below[i];
-        expect_state("a short interval", y, x.answer, x.answer_difficulty);
+        expect_state("a short interval", sm2, y, x.answer, x.answer_difficulty);
     }
 }
 
@@ -522,7 +585,7 @@ static void expect_step(const char *name, struct call x, float s, float d, float
     expect(step(&x) == FSRS_ACCEPTED, "%s: refused", name);
     expect_single(name, x.answer, s);
     expect_single(name, x.answer_difficulty, d);
-    expect_single(name, x.record[7], branch);
+    expect_single(name, x.record[FSRS_RECORD_BRANCH], branch);
     const float given[] = {x.stability, x.difficulty};
     expect(memcmp(x.record, given, sizeof given) == 0, "%s: the record has not the state as given", name);
 }
@@ -533,23 +596,23 @@ static void steps(void) {
     first.stability = first.difficulty = 0;
     first.row = 0;
     first.rating = 0;
-    expect_step("padding from (0, 0)", first, 0.0001f, 1, 0);
+    expect_step("padding from (0, 0)", first, 0.0001f, 1, FSRS_BRANCH_PADDING);
     first.rating = 1;
-    expect_step("first rating 1", first, first.w[0], first.w[4], 1);
+    expect_step("first rating 1", first, first.w[0], first.w[4], FSRS_BRANCH_FIRST);
     struct call x = good();
     x.w[7] = 0;
     x.w[13] = x.w[17] = x.w[19] = 0;
     x.day = 0;
-    expect_step("same day without weights 17 and 19", x, x.stability, x.difficulty, 2);
+    expect_step("same day without weights 17 and 19", x, x.stability, x.difficulty, FSRS_BRANCH_SAME_DAY);
     x.day = -1;
-    expect_step("day -1, rating 3", x, x.stability, x.difficulty, 6);
+    expect_step("day -1, rating 3", x, x.stability, x.difficulty, FSRS_BRANCH_SUCCESS);
     x.day = 100000;
     expect(step(&x) == FSRS_ACCEPTED, "day 100000 was refused");
     x.day = 1;
     x.rating = 1;
     step(&x);
     expect_single("a lapse without weight 13", x.answer, 0.0001f);
-    expect_single("its branch", x.record[7], 4);
+    expect_single("its branch", x.record[FSRS_RECORD_BRANCH], FSRS_BRANCH_LAPSE);
 }
 
 /* After a first review rated 1 the stability is weight 0. */
@@ -735,10 +798,12 @@ static void files_refused(void) {
 
 int main(void) {
     refusals();
+    first_states_refused();
     imports_refused();
     kernels();
     kernels_refused();
     formulas();
+    first_states();
     imports();
     steps();
     steps_backward();

@@ -148,11 +148,11 @@ static void study_line(char letter) {
 static float branch_number(uint64_t branch, uint64_t flag) {
     switch (branch) {
     case 2:
-        return flag ? 2 : 3;
+        return flag ? FSRS_BRANCH_SAME_DAY : FSRS_BRANCH_SAME_DAY_ONE;
     case 3:
-        return flag ? 5 : 4;
+        return flag ? FSRS_BRANCH_LAPSE_FLOORED : FSRS_BRANCH_LAPSE;
     default:
-        return branch == 4 ? 6 : (float)branch;
+        return branch == 4 ? FSRS_BRANCH_SUCCESS : (float)branch;
     }
 }
 
@@ -161,10 +161,10 @@ static void expect_record(void) {
     if (branch == 2 || branch == 3) {
         memcpy(numbers, words + 21, sizeof numbers);
     }
-    expect_singles("the state as given", lent.record, words + 11, 2);
-    expect_singles("the record", lent.record + 2, words + 15, 5);
-    expect_singles("the branch", lent.record + 7, &number, 1);
-    expect_singles("the branch's number", lent.record + 8, numbers, 2);
+    expect_singles("the state as given", lent.record + FSRS_RECORD_STABILITY, words + 11, 2);
+    expect_singles("the record", lent.record + FSRS_RECORD_DAY, words + 15, 5);
+    expect_singles("the branch", lent.record + FSRS_RECORD_BRANCH, &number, 1);
+    expect_singles("the branch's number", lent.record + FSRS_RECORD_BRANCH_RAW, numbers, 2);
 }
 
 static void step_line(char letter) {

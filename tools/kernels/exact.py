@@ -29,6 +29,7 @@ from math import factorial, lcm
 
 sys.path.insert(0, os.path.join(os.path.dirname(os.path.abspath(__file__)), ".."))
 from floats import F32, F64, NAN
+from usage import fail, whole
 
 N = 0xB17217F7D1CF79AB
 
@@ -601,14 +602,27 @@ def audit():
         assert lo <= p <= hi and hi - lo < 64, (num, den)
 
 
-def main(words):
-    n, seed = 4000, 1
-    while words and words[0] in ("-n", "-s", "--"):
-        if words[0] == "--":
-            words = words[1:]
-            break
-        n, seed = (int(words[1]), seed) if words[0] == "-n" else (n, int(words[1]))
+def options(words):
+    """POINTS, SEED and the words behind them; a wrong option ends with the usage."""
+    usage = f"usage: {sys.argv[0]} [-n POINTS] [-s SEED] [[--] HOST...] | table"
+    if words == ["--help"]:
+        print(usage)
+        sys.exit()
+    given = {"-n": 4000, "-s": 1}
+    while words and words[0] in given:
+        if len(words) < 2:
+            fail(usage)
+        given[words[0]] = whole(words[0], words[1])
         words = words[2:]
+    if words[:1] == ["--"]:
+        words = words[1:]
+    elif words and words[0].startswith("-"):
+        fail(usage)
+    return given["-n"], given["-s"], words
+
+
+def main(words):
+    n, seed, words = options(words)
     if words == ["table"]:
         print("\n".join(f"0x{t:016X}" for t in TABLE[:256]))
         return 0

@@ -15,6 +15,8 @@ import sys
 
 TOOLS = os.path.join(os.path.dirname(os.path.abspath(__file__)), "..")
 sys.path += [TOOLS, os.path.join(TOOLS, "kernels")]
+from usage import arguments, whole
+
 PROGRAM = os.path.join(TOOLS, "..", "crates", "vectors")
 
 # what those who read a list have room for: the words and the bytes of a line, and the bytes of the list
@@ -23,9 +25,9 @@ WORDS, LINE, BYTES = 640, 5000, 1 << 19
 source = random.Random()
 
 
-def seeded():
+def seeded(words="[SEED]"):
     """The seed that the command names, or 1."""
-    seed = int(sys.argv[1]) if len(sys.argv) > 1 else 1
+    seed = whole("SEED", *(arguments(words, 0, 1) or ["1"]))
     source.seed(seed)
     return seed
 

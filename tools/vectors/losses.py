@@ -64,7 +64,7 @@ CELLS, RECORDS, STEP_GRADS = 128, 640, 64
 is_trial = sys.argv[1:2] == ["--self"]
 if is_trial:
     del sys.argv[1]
-seed = seeded()
+seed = seeded("[--self] [SEED]")
 
 
 # ---- analytic_v6.rs

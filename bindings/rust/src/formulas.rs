@@ -139,7 +139,30 @@ pub fn stability_short_term(w: &[f32], s: f32, rating: u32) -> Result<f32, Refus
     raw::stability_short_term(w, s, rating)
 }
 
-/// The state after a review `delta_t` days after the last one. Any rating is taken, and clamped to 1-4.
+/// The state of a new card after its first review: the stability is `w[rating - 1]`, the difficulty that of
+/// [`init_difficulty`], clamped to 1..10.
+///
+/// Refusals: [`Refusal::WeightCount`], [`Refusal::WeightBox`], [`Refusal::Scalar`] for a rating that is not 1-4.
+///
+/// ```
+/// use fsrs6::{check_and_fill_parameters, first_state, next_interval, next_state, Refusal};
+/// let w = check_and_fill_parameters(&[])?;
+/// let mut card = first_state(&w, 3)?;
+/// assert_eq!(card.stability, w[2]);
+/// for (days, rating) in [(2.0, 3), (11.0, 1), (1.0, 3)] {
+///     card = next_state(&w, card, days, rating)?;
+/// }
+/// assert!(next_interval(&w, card.stability, 0.9)? > 1.0); // the days until it is due
+/// assert_eq!(first_state(&w, 0), Err(Refusal::Scalar));
+/// # Ok::<(), Refusal>(())
+/// ```
+pub fn first_state(w: &[f32], rating: u32) -> Result<State, Refusal> {
+    raw::first_state(w, rating)
+}
+
+/// The state after a later review, `delta_t` days after the one before. Any rating is taken, and clamped to 1-4. The given
+/// state is clamped to its range, so that (0, 0) is no new card but one of stability 0.0001; a card begins with
+/// [`first_state`].
 ///
 /// Refusals: [`Refusal::WeightCount`], [`Refusal::WeightBox`], [`Refusal::Scalar`].
 ///

@@ -2,7 +2,8 @@
 //!
 //! These are safe functions over the C library of `include/fsrs6.h`, one for each of its functions and under its name. A
 //! call answers, or gives the [`Refusal`] by which it was refused and has then written nothing. Every argument is checked:
-//! no input panics, and any bits may stand in any number.
+//! no input panics, and any bits may stand in any number. The header has the range of each, and which cells of a loss call
+//! are read.
 //!
 //! ```
 //! use fsrs6::{check_and_fill_parameters, next_interval, next_state, State};
@@ -14,6 +15,12 @@
 //! assert!(next_interval(&w, after.stability, 0.9)? > 5.0);
 //! # Ok::<(), fsrs6::Refusal>(())
 //! ```
+//!
+//! A card begins with its first review, whose rating alone gives its state: [`first_state`]. Every later review is a call
+//! of [`next_state`] on the state before it, and after each [`next_interval`] tells when to show the card again.
+//!
+//! No function keeps anything from one call to the next, so any number of calls may run at once, on any threads. One duty
+//! of the header's no type can see to: a thread's floats are as they start, rounded to nearest and subnormals not flushed.
 #![deny(missing_docs)]
 #![deny(unsafe_code)]
 
@@ -26,8 +33,9 @@ mod refusal;
 mod step;
 
 pub use formulas::{
-    check_and_fill_parameters, init_difficulty, mean_reversion, memory_state_from_sm2, next_difficulty, next_interval,
-    next_state, power_forgetting_curve, stability_after_failure, stability_after_success, stability_short_term,
+    check_and_fill_parameters, first_state, init_difficulty, mean_reversion, memory_state_from_sm2, next_difficulty,
+    next_interval, next_state, power_forgetting_curve, stability_after_failure, stability_after_success,
+    stability_short_term,
 };
 pub use kernels::{
     exp_f32, exp_f64, expm1_f32, fma_f32, fma_f64, ln_f32, ln_f64, pow_f32, pow_f64, round_f32, round_f64,
@@ -40,6 +48,40 @@ pub use step::{training_step, training_step_backward, StateGradient, Step, Stepp
 pub const WEIGHTS: usize = 21;
 /// How many singles the record of a step has.
 pub const RECORD: usize = 10;
+/// In the record of a step: the stability before it, as given.
+pub const RECORD_STABILITY: usize = 0;
+/// In the record of a step: the difficulty before it, as given.
+pub const RECORD_DIFFICULTY: usize = 1;
+/// In the record of a step: the day, +0.0 where it goes unread.
+pub const RECORD_DAY: usize = 2;
+/// In the record of a step: the rating.
+pub const RECORD_RATING: usize = 3;
+/// In the record of a step: the retrievability.
+pub const RECORD_RETRIEVABILITY: usize = 4;
+/// In the record of a step: the stability after it, before its last clamp.
+pub const RECORD_PRE_STABILITY: usize = 5;
+/// In the record of a step: the difficulty after it, before its last clamp.
+pub const RECORD_PRE_DIFFICULTY: usize = 6;
+/// In the record of a step: the branch that it took, such as [`BRANCH_FIRST`].
+pub const RECORD_BRANCH: usize = 7;
+/// In the record of a step: the raw multiplier (same day) or the raw stability (lapse), else +0.0.
+pub const RECORD_BRANCH_RAW: usize = 8;
+/// In the record of a step: the multiplier that was used (same day) or the floor (lapse), else +0.0.
+pub const RECORD_BRANCH_OTHER: usize = 9;
+/// The branch of padding.
+pub const BRANCH_PADDING: u32 = 0;
+/// The branch of a first review.
+pub const BRANCH_FIRST: u32 = 1;
+/// The branch of a review on the same day.
+pub const BRANCH_SAME_DAY: u32 = 2;
+/// The branch of a review on the same day whose raw multiplier was below 1, so that 1 was used.
+pub const BRANCH_SAME_DAY_ONE: u32 = 3;
+/// The branch of a lapse.
+pub const BRANCH_LAPSE: u32 = 4;
+/// The branch of a lapse whose floor was below the raw stability, and was used.
+pub const BRANCH_LAPSE_FLOORED: u32 = 5;
+/// The branch of a review that succeeded.
+pub const BRANCH_SUCCESS: u32 = 6;
 /// The most rows of a loss call.
 pub const MAX_ROWS: u32 = 2048;
 /// The most columns of a loss call.
@@ -49,7 +91,9 @@ pub const FILE_BYTES: usize = 65536;
 /// The most rows of a batch file.
 pub const FILE_ROWS: u32 = 512;
 
-/// What the memory of a card is: after no review (0, 0).
+/// What the memory of a card is after a review. A card that has had none has no state: [`first_state`] gives its first.
+///
+/// The default, (0, 0), is what a training step at row 0 begins from ([`Step`]); [`next_state`] would clamp it.
 #[derive(Clone, Copy, Debug, Default, PartialEq)]
 pub struct State {
     /// The days after which the probability of recall is 0.9.

@@ -75,7 +75,8 @@ pub fn batch_loss(w: &[f32], prefixes: &Prefixes) -> Result<f64, Refusal> {
 }
 
 /// The loss of a batch of prefixes, and its gradient added to the 21 slots of `gw`. [`Gradient`] does the same and keeps
-/// the room that is lent here: `records`, ten singles for each row of the longest column.
+/// the room that is lent here: `records`, ten singles for each row of the longest column. It is by number and then by row:
+/// number `f` of the record of row `i`, as [`RECORD_BRANCH`](crate::RECORD_BRANCH), is cell `f * (records.len() / 10) + i`.
 ///
 /// Refusals: those of [`batch_loss`], and after those of the weights [`Refusal::SlotCount`], after [`Refusal::Sizes`]
 /// also [`Refusal::Room`].
@@ -135,7 +136,8 @@ pub fn card_loss(w: &[f32], cards: &Cards) -> Result<f64, Refusal> {
 }
 
 /// The loss of a batch of cards, and its gradient added to the 21 slots of `gw`. [`Gradient`] does the same and keeps the
-/// room that is lent here: `records`, ten singles, and `step_grads`, a double, for each row of the longest column.
+/// room that is lent here: `records`, ten singles, and `step_grads`, a double, for each row of the longest column. The
+/// records are as in [`batch_loss_and_grad`].
 ///
 /// Refusals: those of [`card_loss`], and after those of the weights [`Refusal::SlotCount`], after [`Refusal::Sizes`] also
 /// [`Refusal::Room`].

@@ -57,6 +57,13 @@ mod c {
             stability: *mut f32,
         ) -> u32;
         pub fn fsrs_stability_short_term(w: *const f32, w_len: usize, s: f32, rating: u32, stability: *mut f32) -> u32;
+        pub fn fsrs_first_state(
+            w: *const f32,
+            w_len: usize,
+            rating: u32,
+            stability: *mut f32,
+            difficulty: *mut f32,
+        ) -> u32;
         pub fn fsrs_next_state(
             w: *const f32,
             w_len: usize,
@@ -245,6 +252,14 @@ pub fn check_and_fill_parameters(parameters: &[f32]) -> Result<[f32; WEIGHTS], R
     let number =
         unsafe { c::fsrs_check_and_fill_parameters(parameters.as_ptr(), parameters.len(), weights.as_mut_ptr()) };
     Refusal::accepted(number, weights)
+}
+
+pub fn first_state(w: &[f32], rating: u32) -> Result<State, Refusal> {
+    let mut first = State::default();
+    // SAFETY: w is a slice with its own length; the two places are apart and this function's.
+    let number =
+        unsafe { c::fsrs_first_state(w.as_ptr(), w.len(), rating, &mut first.stability, &mut first.difficulty) };
+    Refusal::accepted(number, first)
 }
 
 pub fn next_state(w: &[f32], q: State, delta_t: f32, rating: u32) -> Result<State, Refusal> {

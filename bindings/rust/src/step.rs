@@ -22,9 +22,7 @@ pub struct Step {
 pub struct Stepped {
     /// The state after it.
     pub state: State,
-    /// How it came about: the state as given (stability, difficulty), day, rating, retrievability, stability and difficulty
-    /// before their last clamp, the branch, and the branch's two numbers. The branch is 0 padding, 1 first, 2 same day,
-    /// 3 same day with the multiplier 1, 4 lapse, 5 lapse floored, 6 success.
+    /// How it came about: ten numbers, from [`RECORD_STABILITY`](crate::RECORD_STABILITY) on.
     pub record: [f32; RECORD],
 }
 
@@ -43,11 +41,11 @@ pub struct StateGradient {
 /// [`Refusal::Rating`], [`Refusal::Day`].
 ///
 /// ```
-/// use fsrs6::{check_and_fill_parameters, training_step, Refusal, State, Step};
+/// use fsrs6::{check_and_fill_parameters, training_step, Refusal, State, Step, BRANCH_FIRST, RECORD_BRANCH};
 /// let w = check_and_fill_parameters(&[])?;
 /// let first = training_step(&w, Step { rating: 1.0, ..Step::default() })?;
 /// assert_eq!(first.state, State { stability: w[0], difficulty: w[4] });
-/// assert_eq!(first.record[7], 1.0);
+/// assert_eq!(first.record[RECORD_BRANCH] as u32, BRANCH_FIRST);
 /// assert_eq!(training_step(&w, Step { rating: 5.0, ..Step::default() }), Err(Refusal::Rating));
 /// # Ok::<(), Refusal>(())
 /// ```

@@ -94,7 +94,7 @@ macro_rules! function {
     };
 }
 
-const FORMULAS: [Function; 10] = [
+const FORMULAS: [Function; 11] = [
     function!(|x| power_forgetting_curve(&x.w, x.step.day, x.step.state.stability)),
     function!(|x| next_interval(&x.w, x.step.state.stability, 0.9)),
     function!(|x| init_difficulty(&x.w, x.rating)),
@@ -103,6 +103,7 @@ const FORMULAS: [Function; 10] = [
     function!(|x| stability_after_success(&x.w, x.step.state.stability, 0.9, x.step.state.difficulty, x.rating)),
     function!(|x| stability_after_failure(&x.w, x.step.state.stability, 0.9, x.step.state.difficulty)),
     function!(|x| stability_short_term(&x.w, x.step.state.stability, x.rating)),
+    function!(|x| first_state(&x.w, x.rating)),
     function!(|x| next_state(&x.w, x.step.state, x.step.day, x.rating)),
     function!(|x| memory_state_from_sm2(&x.w, 2.5, x.step.state.stability, 0.9)),
 ];
@@ -154,6 +155,21 @@ fn scalars_are_refused() {
         x.step.state = State { stability: f32::INFINITY, difficulty: f32::NAN };
         x.rating = 5;
     });
+}
+
+#[test]
+fn first_reviews_are_refused() {
+    let mut w = Call::good().w;
+    let refused = |w: &[f32], refusal| {
+        for rating in [0, 5, 6, 1 << 31, u32::MAX] {
+            assert_eq!(first_state(w, rating), Err(refusal), "{rating}");
+        }
+    };
+    refused(&w, Refusal::Scalar);
+    w[20] = 1.5;
+    refused(&w, Refusal::WeightBox);
+    refused(&w[..20], Refusal::WeightCount);
+    refused(&[], Refusal::WeightCount);
 }
 
 #[test]
@@ -215,8 +231,19 @@ fn reviews_are_refused() {
 fn refusals_have_document_01s_numbers() {
     for (i, refusal) in Refusal::ALL.into_iter().enumerate() {
         assert_eq!(refusal.number(), i as u32 + 1);
-        assert!(!refusal.to_string().is_empty());
     }
+}
+
+/// The words of `fsrs_refusal_text`, after that for no refusal, are the same.
+#[test]
+fn refusals_have_the_headers_words() {
+    let path = concat!(env!("CARGO_MANIFEST_DIR"), "/../../include/fsrs6.h");
+    let header = std::fs::read_to_string(path).expect(path);
+    let (_, table) = header.split_once("texts[] = {").expect("the table");
+    let (table, _) = table.split_once("};").expect("its end");
+    let words: Vec<_> = table.split('"').skip(1).step_by(2).map(str::to_string).collect();
+    assert_eq!(words[0], "accepted");
+    assert_eq!(words[1..], Refusal::ALL.map(|refusal| refusal.to_string()));
 }
 
 #[test]
@@ -247,6 +274,26 @@ fn kernels_refuse() {
     assert_eq!((pow_f32(1.0, 17.0), pow_f64(1.0, -17.0)), (Err(Refusal::Kernel), Err(Refusal::Kernel)));
 }
 
+/// The stability is a weight; the difficulty is the first difficulty, clamped. With no exp it is known where the rating is 1
+/// and where weight 5 is 0.
+#[test]
+fn first_reviews_answer() {
+    for (w4, w5) in [(6.4133, 0.8334), (5.0, 0.0), (0.0, 0.0), (20.0, 0.25), (20.0, 4.0), (0.0, 4.0), (7.5, 0.125)] {
+        let x = Call::with(|x| (x.w[4], x.w[5], x.w[1]) = (w4, w5, 36500.0));
+        for rating in 1..=4 {
+            let state = first_state(&x.w, rating).expect("a first review");
+            assert_eq!(state.stability, x.w[rating as usize - 1]);
+            assert_eq!(Ok(state.difficulty), init_difficulty(&x.w, rating).map(|d| d.clamp(1.0, 10.0)));
+            if rating == 1 || w5 == 0.0 {
+                assert_eq!(state.difficulty, w4.clamp(1.0, 10.0));
+            }
+        }
+    }
+    let w = Call::good().w;
+    assert_eq!(first_state(&w, 4), Ok(State { stability: w[3], difficulty: 1.0 }));
+    assert!(next_state(&w, State::default(), 0.0, 3).expect("a state").stability < 0.001);
+}
+
 /// Where the deck was recalled at 0.9 the stability is the interval, but for two roundings, which a power of 2 leaves out.
 #[test]
 fn cards_from_sm2_are_taken() {
@@ -270,12 +317,12 @@ fn steps_answer() {
     assert_eq!(padding.state, State { stability: 0.0001, difficulty: 1.0 });
     assert_eq!(training_step(&w, first).expect("first").state, State { stability: w[0], difficulty: w[4] });
     let still = Call::with(|x| [7, 13, 17, 19].into_iter().for_each(|i| x.w[i] = 0.0));
-    for (day, branch) in [(0.0, 2.0), (-1.0, 6.0)] {
+    for (day, branch) in [(0.0, BRANCH_SAME_DAY), (-1.0, BRANCH_SUCCESS)] {
         let stepped = training_step(&still.w, Step { day, ..still.step }).expect("a step");
-        assert_eq!((stepped.state, stepped.record[7]), (still.step.state, branch));
+        assert_eq!((stepped.state, stepped.record[RECORD_BRANCH]), (still.step.state, branch as f32));
     }
     let lapse = training_step(&still.w, Step { day: 1.0, rating: 1.0, ..still.step }).expect("a lapse");
-    assert_eq!((lapse.state.stability, lapse.record[7]), (0.0001, 4.0));
+    assert_eq!((lapse.state.stability, lapse.record[RECORD_BRANCH]), (0.0001, BRANCH_LAPSE as f32));
     assert!(training_step(&w, Step { day: 100000.0, ..still.step }).is_ok());
 }
 

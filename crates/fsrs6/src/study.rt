@@ -11,6 +11,7 @@ ghost use Rattle.model_v6.specs.Answers.{
   meanReversionScalar,
   nextDifficultyScalar,
   nextStateScalar,
+  firstStateScalar,
   sm2Scalar,
 };
 ghost use Rattle.model_v6.specs.Filling.{fillAnswer};
@@ -27,6 +28,7 @@ use model_v6::stability::stability_after_failure_scalar;
 use model_v6::stability::stability_after_success_scalar;
 use model_v6::stability::stability_short_term_scalar;
 use model_v6::state::MemoryState;
+use model_v6::state::first_state_scalar;
 use model_v6::state::next_state_scalar;
 
 #[no_mangle]
@@ -195,6 +197,26 @@ pub extern "C" fn fsrs_next_state(
     let next = a.state;
     put_f32(next_stability, a.refusal, next.stability);
     put_f32(next_difficulty, a.refusal, next.difficulty);
+    a.refusal
+}
+
+#[no_mangle]
+pub extern "C" fn fsrs_first_state(
+    w: &[f32],
+    rating: u32,
+    stability: &mut f32,
+    difficulty: &mut f32,
+) -> u32
+    ensures { λ n. ⌜
+        (let a = firstStateScalar (now (w .entry)) rating in
+        (n ≡ a .refusal) ×
+        (now (stability .exit) ≡ written (a .refusal) (a .state .stability) (now (stability .entry))) ×
+        (now (difficulty .exit) ≡ written (a .refusal) (a .state .difficulty) (now (difficulty .entry)))) ⌝ }
+{
+    let a = first_state_scalar(w, rating);
+    let state = a.state;
+    put_f32(stability, a.refusal, state.stability);
+    put_f32(difficulty, a.refusal, state.difficulty);
     a.refusal
 }
 

@@ -3,7 +3,7 @@ use Prim.Native.Nat.{ℕ, zero, suc, _*_, _/_, _^_}
 use mathlib.Core.Bool.{Bool, true, false, _&&_, cond}
 use lib.IntN.{ℤ, pos, natAbs, _*ℤ_}
 use lib.Signed.{shrZ}
-use lib.Ieee.{Float, nan, inf, fin, Format, binary32, binary64, unlike, up, down, round, ofBits, neg, sub, le, lt}
+use lib.Ieee.{Float, nan, inf, fin, Format, binary32, binary64, unlike, up, down, round, isNan, ofBits, neg, sub, le, lt}
 use Rattle.soft.specs.Narrow.{narrowDef}
 use Rattle.table.specs.Exact.{N}
 use Rattle.table.specs.Whole.{signed, below0}
@@ -70,3 +70,7 @@ powDef f (inf s) y = nan
 powDef f (fin s zero e) y = nan
 powDef f (fin true (suc m) e) y = nan
 powDef f (fin false (suc m) e) y = cond (powered y) (powAt f (stepLog f (suc m) e) y) nan
+
+-- refusal 10 is shown as a NaN
+abbrev pub kernelRefusal : Float → ℕ
+kernelRefusal y = cond (isNan y) 10 0

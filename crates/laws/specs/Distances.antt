@@ -5,10 +5,10 @@ use mathlib.Core.Bool.{Bool, true, false, not, _&&_, Bool·beq, cond}
 use Prim.Native.Nat.{ℕ, zero, suc, _+_, _-_, _*_, _^_, _≤_}
 use lib.Dec.{T}
 use lib.IntN.{ℤ, pos}
-use lib.Ieee.{Float, nan, inf, fin, Format, binary32, binary64, unlike, up, down, fits, isNan, le}
+use lib.Ieee.{Float, nan, inf, fin, Format, binary32, binary64, unlike, up, down, fits, le}
 use lib.Ieee.Scale.{finite}
 use Rattle.table.specs.Exact.{Frac, Signed, minusFrac, E, L}
-use Rattle.kernels.specs.Kernels.{expDef, expm1Def, lnDef, powDef, powered}
+use Rattle.kernels.specs.Kernels.{expDef, expm1Def, lnDef, powDef, powered, kernelRefusal}
 
 -- ---- distances
 -- y is a number, not negative, and within 2 ^ -p * q of the fraction q: (1 - 2 ^ -p) q ≤ y ≤ (1 + 2 ^ -p) q
@@ -115,7 +115,7 @@ PowAtMostOne f =
     (x y : Float) → T (fits f x) → T (fits f y) → T (finite x) → T (powered y) → T (le floatOne x) → T (le y (fin false 0 (pos 0))) →
     T (le (powDef f x y) floatOne)
 
--- ---- refusal 10, the NaN, stands exactly outside the domain
+-- ---- refusal 10 stands exactly outside the domain
 abbrev pub positive : Float → Bool
 positive nan = false
 positive (inf s) = false
@@ -123,13 +123,13 @@ positive (fin s zero e) = false
 positive (fin s (suc m) e) = not s
 
 abbrev pub ExpRefuses : Format → Type 0
-ExpRefuses f = (x : Float) → isNan (expDef f x) ≡ not (finite x)
+ExpRefuses f = (x : Float) → kernelRefusal (expDef f x) ≡ cond (finite x) 0 10
 
 abbrev pub LnRefuses : Format → Type 0
-LnRefuses f = (x : Float) → isNan (lnDef f x) ≡ not (positive x)
+LnRefuses f = (x : Float) → kernelRefusal (lnDef f x) ≡ cond (positive x) 0 10
 
 abbrev pub PowRefuses : Format → Type 0
-PowRefuses f = (x y : Float) → isNan (powDef f x y) ≡ not (positive x && powered y)
+PowRefuses f = (x y : Float) → kernelRefusal (powDef f x y) ≡ cond (positive x && powered y) 0 10
 
 -- ---- all of it
 pub record Kernels (f : Format) : Type 0 where
@@ -153,7 +153,7 @@ abbrev pub EMinus : Bool → (a b : ℕ) → Signed
 EMinus s a b = minusFrac (E s a b .num) (E s a b .den) (E s a b .den)
 
 -- 'for |x| <= 86 within 2^-23 |E(x) - 1| + 2^-48 of the exact value, and exactly 0 at ±0' (change request K1): the zero that was given. From 89 on
--- it is +infinity, from -89 on -1, and the NaN, refusal 10, stands exactly outside the domain
+-- it is +infinity, from -89 on -1, and refusal 10 stands exactly outside the domain
 pub record Minus : Type 0 where
   pub near :
       (s : Bool) (m : ℕ) (e : ℤ) → T (fits binary32 (fin s m e)) → m * up e ≤ 86 * down e
@@ -162,4 +162,4 @@ pub record Minus : Type 0 where
   pub ends :
       (s : Bool) (m : ℕ) (e : ℤ) → T (fits binary32 (fin s m e)) → 89 * down e ≤ m * up e
       → expm1Def (fin s m e) ≡ cond s (fin true 1 (pos 0)) (inf false)
-  pub refuses : (x : Float) → isNan (expm1Def x) ≡ not (finite x)
+  pub refuses : (x : Float) → kernelRefusal (expm1Def x) ≡ cond (finite x) 0 10

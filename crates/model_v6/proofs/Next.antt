@@ -1,4 +1,4 @@
--- How next_state_scalar, which has its refusal's number, goes on: refused, or accepted. Assumes nothing.
+-- How next_state_scalar and first_state_scalar, which have their refusal's number, go on: refused, or accepted. Assumes nothing.
 use Prim.Native.Nat.{ℕ}
 use mathlib.Core.Bool.{Bool}
 use mathlib.Core.List.{List}

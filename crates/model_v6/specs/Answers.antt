@@ -11,7 +11,7 @@ use Rattle.domain.specs.Limits.{zero32, one, D_MIN, D_MAX, dayGood, stabilityGo
 use Rattle.domain.specs.Weights.{weightsRefusal}
 use Rattle.model_v6.specs.Curve.{curveDef, intervalDef}
 use Rattle.model_v6.specs.Difficulty.{initDifficultyDef, meanReversionDef, nextDifficultyDef}
-use Rattle.model_v6.specs.NextState.{nextStateDef}
+use Rattle.model_v6.specs.NextState.{nextStateDef, firstStateDef}
 use Rattle.model_v6.specs.Sm2.{sm2Raw}
 use Rattle.model_v6.specs.Stability.{stabilityAfterSuccess, stabilityAfterFailure, stabilityShortTerm}
 use Rattle.model_v6.specs.declared.answers.Scalar.{Scalar}
@@ -83,6 +83,10 @@ nextDifficultyScalar w d rating = scalarDef w (difficultyGood d && gradeGood rat
 -- any rating is taken: 'clamps any whole rating to 1-4'
 unfoldable pub nextStateScalar : (w : List Float) (state : MemoryState) (delta-t : Float) (rating : ℕ) → NextState
 nextStateScalar w state delta-t rating = stateDef w (finiteMemory state && dayGood delta-t) (nextStateDef w state delta-t rating)
+
+-- first_state_scalar, by change request K11
+unfoldable pub firstStateScalar : (w : List Float) (rating : ℕ) → NextState
+firstStateScalar w rating = stateDef w (gradeGood rating) (firstStateDef w rating)
 
 -- memory_state_from_sm2_scalar: 'if !stability.is_finite() || !difficulty.is_finite()', asked before the clamp, is 14, after 1, 2 and 13
 unfoldable pub sm2Refusal : (w : List Float) (ease interval retention : Float) → ℕ

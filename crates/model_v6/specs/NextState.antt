@@ -1,13 +1,14 @@
--- next_state_scalar of model_v6.rs. Assumes nothing.
-use Prim.Native.Nat.{ℕ}
+-- next_state_scalar of model_v6.rs, and the state after a card's first review. Assumes nothing.
+use Prim.Native.Nat.{ℕ, _-_}
 use mathlib.Core.Bool.{cond}
 use mathlib.Core.List.{List}
 use lib.Dec.{eqb, ltb}
 use lib.Ieee.{Float, eq}
 use Rattle.domain.specs.Floats.{clampDef}
 use Rattle.domain.specs.Limits.{zero32, S_MIN, S_MAX, D_MIN, D_MAX}
+use Rattle.domain.specs.Weights.{_!_}
 use Rattle.model_v6.specs.Curve.{daysDef, curveDef}
-use Rattle.model_v6.specs.Difficulty.{nextDifficultyDef}
+use Rattle.model_v6.specs.Difficulty.{initDifficultyDef, nextDifficultyDef}
 use Rattle.model_v6.specs.Stability.{stabilityAfterSuccess, stabilityAfterFailure, stabilityShortTerm}
 use Rattle.model_v6.specs.declared.state.MemoryState.{MemoryState}
 
@@ -30,3 +31,7 @@ nextStateDef w state delta-t rating =
     let d = clampDef (state .difficulty) D_MIN D_MAX in
     let r = curveDef w delta-t s in
     record { stability = stabilityAfter w s d delta-t rating r; difficulty = nextDifficultyDef w d rating }
+
+-- change request K11: 'stability from weights 0-3, difficulty from the clamped first difficulty'
+unfoldable pub firstStateDef : (w : List Float) (rating : ℕ) → MemoryState
+firstStateDef w rating = record { stability = w ! (rating - 1); difficulty = clampDef (initDifficultyDef w rating) D_MIN D_MAX }

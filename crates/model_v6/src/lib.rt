@@ -1,10 +1,12 @@
 // model_v6.rs and inference_v6.rs: what a study screen calls. The public functions have the names and the order of operations
-// of the Rust; each takes the weights as a lent slice, checks for itself, and gives a refusal's number beside its answer.
+// of the Rust, and `first_state_scalar` is change request K11's; each takes the weights as a lent slice, checks for itself, and
+// gives a refusal's number beside its answer.
 pub mod answers;
 pub mod curve;
 pub mod difficulty;
 pub mod filling;
-// The Rust's formulas on 21 weights, total, with an equation each; the modules beside this one put the checks in front.
+// The Rust's formulas on 21 weights, total but for `first_state`, with an equation each; the modules beside this one put the
+// checks in front.
 mod formulas;
 pub mod sm2;
 pub mod stability;

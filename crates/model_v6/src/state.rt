@@ -1,7 +1,9 @@
-// The state after a review, with its checks.
+// The state after a review and after a first one, with their checks.
 ghost use mathlib.Core.Path.{_≡_};
-ghost use Rattle.model_v6.specs.Answers.{finiteMemory, refusedState, nextStateScalar};
+ghost use Rattle.model_v6.specs.Answers.{finiteMemory, refusedState, nextStateScalar, firstStateScalar};
+use crate::answers::is_rating;
 use crate::answers::scalar_refusal;
+use crate::formulas::state::first_state;
 use crate::formulas::state::next_state;
 use domain::floats::is_finite;
 use domain::limits::is_day;
@@ -52,5 +54,21 @@ pub fn next_state_scalar(w: &[f32], state: MemoryState, delta_t: f32, rating: u3
     NextState {
         refusal: 0,
         state: next,
+    }
+}
+
+// The state after a card's first review.
+pub fn first_state_scalar(w: &[f32], rating: u32) -> NextState
+    ensures { λ r. ⌜ r ≡ firstStateScalar (now (w .entry)) rating ⌝ }
+{
+    let n = scalar_refusal(w, is_rating(rating));
+    if n != 0 {
+        return refused_state(n);
+    }
+    let v = copy_weights(w);
+    let first = first_state(&v, rating);
+    NextState {
+        refusal: 0,
+        state: first,
     }
 }

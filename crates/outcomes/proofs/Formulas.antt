@@ -30,6 +30,7 @@ use Rattle.model_v6.proofs.stability.stability_after_success_scalar
 use Rattle.model_v6.proofs.stability.stability_after_failure_scalar
 use Rattle.model_v6.proofs.stability.stability_short_term_scalar
 use Rattle.model_v6.proofs.state.next_state_scalar
+use Rattle.model_v6.proofs.state.first_state_scalar
 use Rattle.model_v6.proofs.sm2.memory_state_from_sm2_scalar
 
 -- soft::flags
@@ -133,6 +134,9 @@ one-stability-short-term-scalar = one (λ κs a o c. c ⨾ none ⨾ none ⨾ non
 -- model_v6::state
 pub one-next-state-scalar : One next_state_scalar.Kinds.ps next_state_scalar.Kinds.r next_state_scalar.Reads.Post
 one-next-state-scalar = one (λ κs a o c. c ⨾ none ⨾ none ⨾ none ⨾ none ⨾ end)
+
+pub one-first-state-scalar : One first_state_scalar.Kinds.ps first_state_scalar.Kinds.r first_state_scalar.Reads.Post
+one-first-state-scalar = one (λ κs a o c. c ⨾ none ⨾ none ⨾ end)
 
 -- model_v6::sm2
 pub one-memory-state-from-sm2-scalar : One memory_state_from_sm2_scalar.Kinds.ps memory_state_from_sm2_scalar.Kinds.r memory_state_from_sm2_scalar.Reads.Post

@@ -2,5 +2,6 @@
 pub mod reading
 pub mod Frozen
 pub mod Imported
+pub mod Weightless
 pub mod Twelve
 pub mod Promises

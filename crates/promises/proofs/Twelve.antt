@@ -10,6 +10,7 @@ use Rattle.soft.specs.Fma.{fmaDef, times, plus}
 use Rattle.soft.specs.HalfAway.{roundDef}
 use Rattle.kernels.specs.Calls.{exp32}
 use Rattle.domain.specs.Weights.{_!_}
+use Rattle.forward.specs.Params.{paramsDef}
 use Rattle.forward.specs.declared.state.State.{State}
 use Rattle.forward.specs.Step.{clampState, paddingDef, stepDef}
 use Rattle.columns.specs.Scores.{MIN_PROB, MAX_PROB, noScore, scoreDef}
@@ -17,7 +18,8 @@ use Rattle.checks.specs.Reads.{check, first, prefixRow, cardRow, targetDef}
 use Rattle.columns.specs.LastReview.{targetLoss, targetGrad, targetSlots}
 use Rattle.laws.proofs.Values.Defaults.{single, boxed, first-state}
 use Rattle.laws.proofs.Values.Steps.{Ready, same-stability, same-branch, lapse-stability, lapse-branch, early-stability, same-difficulty}
-use Rattle.promises.specs.Twelve.{Weights, InRange, Value1, Value2, Value3, Value4, Value5, Value6, Value7, Value8, Value9, Value10, Value11, Value12, NextDay, InPrefix, InCard, InTarget, last, next, Twelve}
+use Rattle.promises.specs.Twelve.{Weights, InRange, Value1, Value2, Value3, Value4, Value5, Value6, Value7, Value8, Value9, Value10, Value11, OfReview, OfPrefix, OfPrefixes, OfCard, OfCards, Value12, NextDay, InPrefix, InCard, InTarget, last, next, Twelve}
+use Rattle.promises.proofs.Weightless.{total-zero, prefix-loss, prefix-slots, card-loss, card-grads, card-slots}
 use Rattle.laws.proofs.Distances.Ends.{exp-zero}
 
 -- ---- the kernels
@@ -70,9 +72,24 @@ value-10 : Value10
 value-10 w h q g a day = same-difficulty w q (ready w q h g) day a
 
 -- ---- the scores
-value-11 : Value11
+of-review : OfReview
 unfolding scoreDef noScore targetLoss targetGrad targetSlots
-value-11 p r s day label weight slots e = (rw e, rw e, rw e, rw e)
+of-review p r s day label weight slots e = (rw e, rw e, rw e, rw e)
+
+of-prefix : OfPrefix
+of-prefix p x column slots e = (prefix-loss p x column e, prefix-slots p x column e slots)
+
+of-prefixes : OfPrefixes
+of-prefixes w x e = total-zero _ _ (λ column l. prefix-loss (paramsDef w) x column (e column l))
+
+of-card : OfCard
+of-card p x column slots step-grads e = (card-loss p x column e, card-grads p x column e step-grads, card-slots p x column e slots)
+
+of-cards : OfCards
+of-cards w x e = total-zero _ _ (λ column l. card-loss (paramsDef w) x column (e column l))
+
+value-11 : Value11
+value-11 = (of-review, of-prefix, of-prefixes, of-card, of-cards)
 
 -- ---- the days
 day-passes : dayGood last ≡ true

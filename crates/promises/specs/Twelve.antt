@@ -2,12 +2,13 @@
 -- infinity, or `fin s m e`, the number m * 2 ^ e, negative
 -- where s is true; `minus 0 k` is the exponent -k. `fits f x` says that x is a value of the format f, and `eq` is IEEE 754's
 -- equality. `decimal n d` is the single nearest to n / d, and
--- `zero32`, `one`, `three` are the singles 0, 1, 3. The proofs are in laws/proofs/Values and in proofs/Twelve.antt. Assumes nothing.
+-- `zero32`, `one`, `three` are the singles 0, 1, 3. The proofs are in laws/proofs/Values, and in proofs/Weightless.antt and Twelve.antt. Assumes nothing.
 use mathlib.Core.Path.{_≡_}
 use mathlib.Core.Bool.{true, false}
 use mathlib.Core.List.{List, [], _∷_}
-use Prim.Native.Nat.{ℕ, _+_, _-_, _*_, _^_}
+use Prim.Native.Nat.{ℕ, _+_, _-_, _*_, _^_, _<_}
 use lib.IntN.{pos}
+use lib.ListN.{length}
 use lib.Ieee.{Float, fin, Format, binary32, minus, fits, neg, eq, ofBits, toBits}
 use Rattle.domain.specs.Floats.{_-ᶠ_}
 use Rattle.domain.specs.Limits.{decimal, zero32, one, three, stabilityGood, difficultyGood, dayGood}
@@ -24,7 +25,12 @@ use Rattle.forward.specs.Step.{stepDef}
 use Rattle.forward.specs.declared.state.Stepped.{Stepped}
 use Rattle.columns.specs.Scores.{MAX_PROB, scoreDef}
 use Rattle.checks.specs.Reads.{ratingGood, weightGood, labelGood, nonZero, prefixDay, cardDay, cardRating, check, prefixRow, cardScore, cardRow, targetDef}
+use Rattle.checks.specs.Batch.{Table, Prefixes, Cards, lengthAt, history, weightAt}
 use Rattle.columns.specs.LastReview.{targetLoss, targetGrad, targetSlots}
+use Rattle.columns.specs.ForwardPass.{recordAt}
+use Rattle.columns.specs.BackwardPass.{startGrad, backDef}
+use Rattle.analytic_v6.specs.Prefixes.{prefixLoss, prefixSlots, prefixesTotal}
+use Rattle.analytic_v6.specs.Cards.{cardLoss, cardSlots, cardGrads, cardsTotal}
 
 -- ---- what the cases share
 -- 'A zero of either sign is zero.'
@@ -112,13 +118,44 @@ abbrev pub Value10 : Type 0
 Value10 = AtRow1 (λ w q. IsZero (w ! 7) → (day : Float) → step w q day three 1 .state .d ≡ q .d)
 
 -- '11. Review weight 0: loss and gradient 0.' Those of a score, and those of a scored review at the end of a column, which moves no slot.
-abbrev pub Value11 : Type 0
-Value11 =
+abbrev pub OfReview : Type 0
+OfReview =
     (p : RuntimeParams) (r s day label weight : Float) (slots : List Float) → IsZero weight
     → (scoreDef r label weight ≡ record { loss = zero64; «g_r» = zero64 })
     × (targetLoss p s day label weight ≡ zero64)
     × (targetGrad p s day label weight ≡ zero64)
     × (targetSlots p s day label weight slots ≡ slots)
+
+-- what n steps of a column make of the slots where no score adds a gradient: what goes back begins at 0
+abbrev pub unscored : (p : RuntimeParams) (t : Table) (column n : ℕ) (slots : List Float) → List Float
+unscored p t column n slots = backDef p (recordAt p (history t column)) (λ row. zero64) n (startGrad zero64) slots
+
+-- Those of a prefix, and the total of a call of such prefixes.
+abbrev pub OfPrefix : Type 0
+OfPrefix =
+    (p : RuntimeParams) (x : Prefixes) (column : ℕ) (slots : List Float) → IsZero (x .weights ! column)
+    → (prefixLoss p x column ≡ zero64) × (prefixSlots p x column slots ≡ unscored p (x .table) column (lengthAt (x .table) column) slots)
+
+abbrev pub OfPrefixes : Type 0
+OfPrefixes =
+    (w : List Float) (x : Prefixes) → ((column : ℕ) → column < x .table .columns → IsZero (x .weights ! column)) → prefixesTotal w x ≡ zero64
+
+-- Those of a card, all of whose review weights are 0, and the total of a call of such cards. Row 0 is not scored, and the last row is no step.
+abbrev pub Weightless : (x : Cards) (column : ℕ) → Type 0
+Weightless x column = (row : ℕ) → 0 < row → row < lengthAt (x .table) column → IsZero (weightAt x column row)
+
+abbrev pub OfCard : Type 0
+OfCard =
+    (p : RuntimeParams) (x : Cards) (column : ℕ) (slots step-grads : List Float) → Weightless x column
+    → (cardLoss p x column ≡ zero64)
+    × ((row : ℕ) → row < lengthAt (x .table) column → row < length step-grads → cardGrads p x column step-grads ! row ≡ zero64)
+    × (cardSlots p x column slots ≡ unscored p (x .table) column (lengthAt (x .table) column - 1) slots)
+
+abbrev pub OfCards : Type 0
+OfCards = (w : List Float) (x : Cards) → ((column : ℕ) → column < x .table .columns → Weightless x column) → cardsTotal w x ≡ zero64
+
+abbrev pub Value11 : Type 0
+Value11 = OfReview × OfPrefix × OfPrefixes × OfCard × OfCards
 
 -- '12. Day 100000 passes; 100000.0078125 is 7.' That is the next single, 100000 + 2^-7.
 abbrev pub last : Float

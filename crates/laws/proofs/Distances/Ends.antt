@@ -1,6 +1,6 @@
 -- The power at its ends and at 0: +infinity and +0 from 128 or 1024 factors of 2 on, 1 at 0, at most 1 below 0, never a NaN; and exp's. Assumes nothing.
 use mathlib.Core.Path.{_≡_, refl, sym, ap, _∙_, subst}
-use mathlib.Core.Bool.{Bool, true, false, cond}
+use mathlib.Core.Bool.{Bool, true, false, not, cond}
 use mathlib.Core.Logic.{inl, inr}
 use Prim.Native.Nat.{ℕ, zero, suc, _+_, _-_, _*_, _/_, _%_, _^_, _≤_, _<_}
 use native.Mathlib.Nat.{le-trans, le-of-eq, le-of-lt, lt-of-lt-of-le, lt-of-le-of-lt, lt-of-mul-lt-mul-right, mul-one, one-mul, mul-right-comm, mul-le-mul-right, le-div-iff-mul-le}
@@ -12,14 +12,15 @@ use lib.Ieee.{Float, nan, inf, fin, Format, binary32, binary64, emax, up, down, 
 use lib.Ieee.Bits.{is-false}
 use lib.Ieee.Fits.{down-pos}
 use lib.Ieee.Order.{round-mono}
+use lib.Ieee.Scale.{finite}
 use Rattle.table.specs.Exact.{N, P, taylor, fact}
 use Rattle.table.specs.Entry.{entry}
 use Rattle.soft.proofs.Rounding.Pattern.{round-not-nan}
 use Rattle.kernels.specs.Power.{hi, coef, double4, double3, double2, double1, single1, part, significand}
-use Rattle.kernels.specs.Kernels.{turns, expDef}
+use Rattle.kernels.specs.Kernels.{turns, expDef, kernelRefusal}
 use Rattle.kernels.proofs.Definitions.Hi.{hi-ge}
 use Rattle.kernels.proofs.Definitions.Natural.{lift, biased, whole, index, finishN, powerN, at-low, at-high, at-mid, lt-or-ge, power-is}
-use Rattle.laws.specs.Distances.{floatOne, ended, edge, ExpZero, ExpEnds, ExpRefuses}
+use Rattle.laws.specs.Distances.{floatOne, ended, edge, ExpZero, ExpEnds}
 use Rattle.laws.proofs.Distances.power.Near.{M-high}
 
 -- ---- at 0
@@ -88,6 +89,11 @@ under-power f (suc n) =
     finish-under f (whole Y) (significand f (index Y) (Y % 2 ^ 44) * lift f) (M-high f Y) (omega arith)
 
 -- ---- no NaN
+-- a NaN exactly outside a domain is refusal 10 exactly there
+pub refusal-10 : (y : Float) (good : Bool) → isNan y ≡ not good → kernelRefusal y ≡ cond good 0 10
+refusal-10 y true h = rw h
+refusal-10 y false h = rw h
+
 pub either : (b : Bool) (x y : Float) → isNan x ≡ false → isNan y ≡ false → isNan (cond b x y) ≡ false
 either true x y h g = h
 either false x y h g = g
@@ -113,11 +119,11 @@ pub exp-zero : (f : Format) → ExpZero f
 unfolding expDef
 exp-zero f s = power-is f s (turns f 0 1) ∙ ap (powerN f s) (turns-zero f) ∙ power-zero f s
 
-pub exp-refuses : (f : Format) → ExpRefuses f
+pub exp-nan : (f : Format) (x : Float) → isNan (expDef f x) ≡ not (finite x)
 unfolding expDef isNan
-exp-refuses f nan = refl
-exp-refuses f (inf s) = refl
-exp-refuses f (fin s m e) = ap isNan (power-is f s (turns f (m * up e) (down e))) ∙ power-number f s (turns f (m * up e) (down e))
+exp-nan f nan = refl
+exp-nan f (inf s) = refl
+exp-nan f (fin s m e) = ap isNan (power-is f s (turns f (m * up e) (down e))) ∙ power-number f s (turns f (m * up e) (down e))
 
 pub quotient : (r s b k : ℕ) → zero < b → r * b ≤ s → r * k ≤ s * k / b
 quotient r s b k z h = le-div-iff-mul-le z .1 (le-trans (le-of-eq (mul-right-comm r k b)) (mul-le-mul-right k h))

@@ -19,7 +19,7 @@ use Rattle.kernels.specs.Kernels.{lnDef}
 use Rattle.soft.proofs.Rounding.Pattern.{round-not-nan}
 use Rattle.soft.proofs.Rounding.Place.{round-none}
 use Rattle.soft.proofs.Rounding.Relative.{kept-up, kept-down, kept-value}
-use Rattle.laws.specs.Distances.{apart, Close, logBits, absBits, LnClose, LnOne, LnRefuses}
+use Rattle.laws.specs.Distances.{apart, Close, logBits, absBits, LnClose, LnOne, positive}
 use Rattle.laws.proofs.Distances.logarithm.Near.{L-den-pos}
 use Rattle.laws.proofs.Distances.logarithm.Pairs.{Away, absolute, relative}
 use Rattle.laws.proofs.Distances.logarithm.Size.{digits-below, L-size}
@@ -208,13 +208,13 @@ number : (b : Bool) → T (not b) → b ≡ false
 number true h = absurd h
 number false h = refl
 
-pub ln-refuses : (f : Format) → LnRefuses f
+pub ln-nan : (f : Format) (x : Float) → isNan (lnDef f x) ≡ not (positive x)
 unfolding lnDef isNan
-ln-refuses f nan = refl
-ln-refuses f (inf s) = refl
-ln-refuses f (fin s zero e) = refl
-ln-refuses f (fin true (suc m) e) = refl
-ln-refuses f (fin false (suc m) e) =
+ln-nan f nan = refl
+ln-nan f (inf s) = refl
+ln-nan f (fin s zero e) = refl
+ln-nan f (fin true (suc m) e) = refl
+ln-nan f (fin false (suc m) e) =
     let z = logarithm f (suc m) e in
     let y = round f (below0 z) (natAbs z) (2 ^ logUnits f) in
     number (isNan y) (round-not-nan f (below0 z) (natAbs z) (2 ^ logUnits f))

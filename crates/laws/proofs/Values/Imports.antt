@@ -34,7 +34,7 @@ use Rattle.model_v6.specs.Answers.{scalarRefusal, finiteMemory, refusedState, a
 use Rattle.model_v6.specs.Curve.{factorDef}
 use Rattle.model_v6.specs.Sm2.{sm2Stability, sm2Difficulty, sm2Raw}
 use Rattle.laws.specs.Distances.{positive}
-use Rattle.laws.proofs.Distances.pow.Laws.{pow-at-most-one, pow-refuses}
+use Rattle.laws.proofs.Distances.pow.Laws.{pow-at-most-one, pow-nan}
 use Rattle.laws.proofs.Values.Box.{above-20}
 use Rattle.laws.proofs.Values.Curve.{yes}
 use Rattle.laws.proofs.Values.Powers.{plus-pow, power-least}
@@ -78,7 +78,7 @@ is-nan (fin s m e) h = absurd (true≢false (sym h))
 
 -- ---- what is not above 0 has no power
 no-power : (x y : Float) → positive x ≡ false → pow32 x y ≡ nan
-no-power x y h = is-nan (pow32 x y) (pow-refuses binary32 x y ∙ ap (λ (b : Bool). not (b && powered y)) h)
+no-power x y h = is-nan (pow32 x y) (pow-nan binary32 x y ∙ ap (λ (b : Bool). not (b && powered y)) h)
 
 no-difficulty : (w : List Float) (ease s retention : Float) → positive s ≡ false → sm2Difficulty w ease s retention ≡ nan
 unfolding sm2Difficulty
@@ -363,7 +363,7 @@ by-power x y Q n h = go (powered y) refl
   where
     go : (b : Bool) → powered y ≡ b → Q (pow32 x y)
     go true e = h (holds e)
-    go false e = subst Q (sym (is-nan (pow32 x y) (pow-refuses binary32 x y ∙ ap (λ (b : Bool). not (positive x && b)) e ∙ ap not (and-false (positive x))))) n
+    go false e = subst Q (sym (is-nan (pow32 x y) (pow-nan binary32 x y ∙ ap (λ (b : Bool). not (positive x && b)) e ∙ ap not (and-false (positive x))))) n
 
 factor-plus : (v : Float) → T (above0 v) → T (plus (factorDef (neg v)))
 unfolding factorDef

@@ -7,6 +7,7 @@ use lib.Dec.{eqb}
 use lib.Ieee.{Float}
 use lib.ListN.{length}
 use borrow.Author.Tests.{eq-eqb, ne-eqb, eqb-true}
+use native.Mathlib.Omega.{arith}
 use Rattle.domain.proofs.weights.Accepted.{accepted-length}
 use Rattle.domain.proofs.weights.Copy.{copy-whole}
 use Rattle.domain.specs.Weights.{copyDef, weightsRefusal}
@@ -25,6 +26,16 @@ answers-accepted w good x n e h = rw (← e, eq-eqb _ 0 h)
 none-refused : (m : ℕ) (a good : Bool) → a ≡ eqb m 0 → cond a (cond good 0 13) m ≡ 0 → m ≡ 0
 none-refused m true good e h = eqb-true _ _ (sym e)
 none-refused m false good e h = h
+
+none-bad : (m : ℕ) (a good : Bool) → a ≡ eqb m 0 → cond a (cond good 0 13) m ≡ 0 → good ≡ true
+none-bad m a true e h = refl
+none-bad m true false e h = absurd (omega (arith, h))
+none-bad m false false e h = e ∙ eq-eqb _ 0 h
+
+-- the arguments are good
+pub answers-good : (w : List Float) (good : Bool) (n : ℕ) → n ≡ scalarRefusal w good → n ≡ 0 → good ≡ true
+unfolding scalarRefusal
+answers-good w good n e h = none-bad (weightsRefusal w) _ good refl (sym e ∙ h)
 
 -- the weights were accepted
 pub answers-length : (w : List Float) (good : Bool) (n : ℕ) → n ≡ scalarRefusal w good → n ≡ 0 → length w ≡ 21

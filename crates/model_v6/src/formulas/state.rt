@@ -1,8 +1,10 @@
-// What a review makes of a card's memory state.
+// What a review makes of a card's memory state, and a first review of none.
 ghost use mathlib.Core.Path.{_≡_};
-ghost use Rattle.model_v6.specs.NextState.{clampRating, stabilityAfter, nextStateDef};
+ghost use Prim.Native.Nat.{_<_};
+ghost use Rattle.model_v6.specs.NextState.{clampRating, stabilityAfter, nextStateDef, firstStateDef};
 use crate::formulas::curve::power_forgetting_curve;
 use crate::formulas::curve::whole_days;
+use crate::formulas::difficulty::init_difficulty;
 use crate::formulas::difficulty::next_difficulty;
 use crate::formulas::stability::stability_after_failure;
 use crate::formulas::stability::stability_after_success;
@@ -47,6 +49,20 @@ pub fn next_state(w: &[f32; 21], state: MemoryState, delta_t: f32, rating: u32) 
     let r = power_forgetting_curve(w, delta_t, s);
     let stability = stability_after(w, s, d, delta_t, rating, r);
     let difficulty = next_difficulty(w, d, rating);
+    MemoryState {
+        stability,
+        difficulty,
+    }
+}
+
+// Weight 0, 1, 2 or 3 by a rating of 1 to 4, and the first difficulty, clamped.
+pub fn first_state(w: &[f32; 21], rating: u32) -> MemoryState
+    requires { ⌜ (0 < rating) × (rating < 5) ⌝ }
+    ensures { λ q. ⌜ q ≡ firstStateDef (now (w .entry)) rating ⌝ }
+{
+    let i = (rating - 1) as usize;
+    let stability = w[i];
+    let difficulty = clamp_difficulty(init_difficulty(w, rating));
     MemoryState {
         stability,
         difficulty,

@@ -19,7 +19,7 @@ use Rattle.table.specs.Exact.{E, minusFrac}
 use Rattle.kernels.specs.Kernels.{tiny, one64, expDef, expm1Def}
 use Rattle.kernels.proofs.Definitions.Cases.{tiny-is}
 use Rattle.laws.specs.Distances.{Near, Close, EMinus, Minus}
-use Rattle.laws.proofs.Distances.Ends.{either, exp-refuses}
+use Rattle.laws.proofs.Distances.Ends.{either, refusal-10, exp-nan}
 use Rattle.laws.proofs.Distances.Exp.{exp-near}
 use Rattle.laws.proofs.Distances.minus.Away.{less-one-close}
 use Rattle.laws.proofs.Distances.minus.Ends.{far-up, far-down}
@@ -89,14 +89,14 @@ narrow-number nan h = h
 narrow-number (inf s) h = refl
 narrow-number (fin s m e) h = is-false (isNan (round binary32 s (m * up e) (down e))) (round-not-nan binary32 s (m * up e) (down e))
 
-refuses : (x : Float) → isNan (expm1Def x) ≡ not (finite x)
+minus-nan : (x : Float) → isNan (expm1Def x) ≡ not (finite x)
 unfolding expm1Def expDef narrowDef sub add neg lt ofBits isNan
-refuses nan = refl
-refuses (inf true) = refl
-refuses (inf false) = refl
-refuses (fin s m e) =
+minus-nan nan = refl
+minus-nan (inf true) = refl
+minus-nan (inf false) = refl
+minus-nan (fin s m e) =
     let y = sub binary64 (expDef binary64 (fin s m e)) one64 in
-    either (tiny (fin s m e)) (fin s m e) (narrowDef binary32 y) refl (narrow-number y (sub-number (expDef binary64 (fin s m e)) (exp-refuses binary64 (fin s m e))))
+    either (tiny (fin s m e)) (fin s m e) (narrowDef binary32 y) refl (narrow-number y (sub-number (expDef binary64 (fin s m e)) (exp-nan binary64 (fin s m e))))
 
 at-zero : (s : Bool) → expm1Def (fin s 0 (pos 0)) ≡ fin s 0 (pos 0)
 unfolding expm1Def lt neg ofBits
@@ -104,4 +104,4 @@ at-zero true = refl
 at-zero false = refl
 
 pub minus : Minus
-minus = record { near = near; at-zero = at-zero; ends = λ s m e k h. ends s m e h; refuses = refuses }
+minus = record { near = near; at-zero = at-zero; ends = λ s m e k h. ends s m e h; refuses = λ x. refusal-10 (expm1Def x) (finite x) (minus-nan x) }

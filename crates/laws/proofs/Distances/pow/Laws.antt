@@ -1,6 +1,6 @@
 -- All that is promised of pow: its logarithm is near L, and at 1 no more than the one unit that the single leaves. Assumes nothing.
 use mathlib.Core.Path.{_≡_, refl, sym, ap, _∙_, subst}
-use mathlib.Core.Bool.{Bool, true, false, not, cond}
+use mathlib.Core.Bool.{Bool, true, false, not, _&&_, cond}
 use Prim.Native.Nat.{ℕ, zero, suc, _+_, _-_, _*_, _^_, _≤_}
 use native.Mathlib.Nat.{le-trans, le-of-eq, lt-of-le-of-lt, zero-lt-suc, mul-one, one-mul, zero-mul}
 use native.Mathlib.Omega.{arith}
@@ -16,7 +16,7 @@ use Rattle.table.specs.Exact.{N, logAt, seriesNum, seriesDen, L}
 use Rattle.kernels.specs.Logarithm.{stepLog}
 use Rattle.kernels.specs.Kernels.{powered, powAt, powDef}
 use Rattle.kernels.proofs.Definitions.Cases.{powered-finite, below-or, in-domain}
-use Rattle.laws.specs.Distances.{floatOne, PowNear, PowEnds, PowOne, PowZero, PowAtMostOne, PowRefuses}
+use Rattle.laws.specs.Distances.{floatOne, PowNear, PowEnds, PowOne, PowZero, PowAtMostOne, positive}
 use Rattle.laws.proofs.Distances.logarithm.Near.{L-den-pos}
 use Rattle.laws.proofs.Distances.logarithm.Steps.{near, at-one}
 use Rattle.laws.proofs.Distances.pow.At as At
@@ -73,13 +73,13 @@ module _ (f : Format) where
       subst (λ (x : Float). T (le x floatOne)) (sym (in-domain f m e y p))
       (At.pow-at-most-one f (stepLog f (suc m) e) y (near f m e k .sign ∙ L-positive (suc m) e (from-one (suc m) e h)) p z)
 
-  pub pow-refuses : PowRefuses f
+  pub pow-nan : (x y : Float) → isNan (powDef f x y) ≡ not (positive x && powered y)
   unfolding powDef isNan
-  pow-refuses nan y = refl
-  pow-refuses (inf s) y = refl
-  pow-refuses (fin s zero e) y = refl
-  pow-refuses (fin true (suc m) e) y = refl
-  pow-refuses (fin false (suc m) e) y = at (powered y) (powered-finite y)
+  pow-nan nan y = refl
+  pow-nan (inf s) y = refl
+  pow-nan (fin s zero e) y = refl
+  pow-nan (fin true (suc m) e) y = refl
+  pow-nan (fin false (suc m) e) y = at (powered y) (powered-finite y)
     where
       at : (b : Bool) → (T b → T (finite y)) → isNan (cond b (powAt f (stepLog f (suc m) e) y) nan) ≡ not b
       at true h = At.pow-number f (stepLog f (suc m) e) y (h tt)
