@@ -31,7 +31,7 @@ module _ (p : RuntimeParams) (hist : History) where
   record-read : (row : ℕ) (xs : List Float) → row < roomDef (length xs) →
       loadDef row (storeDef row (recordAt p hist row) xs) ≡ recordAt p hist row
   unfolding recordAt stepAt
-  record-read row xs l = stored-read row _ xs l ∙ step-read p _ _ _ row
+  record-read row xs l = stored-read row _ xs l ∙ step-read p _ _ _ _
 
   room-kept : (n k : ℕ) (xs : List Float) → k < roomDef (length xs) → k < roomDef (length (storedDef p hist n xs))
   room-kept n k xs h = subst (λ (m : ℕ). k < roomDef m) (sym (path-length n xs)) h

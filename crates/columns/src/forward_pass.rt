@@ -1,11 +1,18 @@
 // Forward down one column of a batch, from the state (0, 0): the states alone, and for a gradient with each step's record in
-// its row. A card's rows are scored on the way, each by the state before its review.
+// its row. A card's rows are scored on the way, each by the state before its review. `first` is the row of the first review,
+// from which rows are numbered; padding in front of it leaves the state (0, 0).
 ghost use mathlib.Core.Path.{_≡_};
-ghost use Rattle.checks.specs.Batch.{view, historyOf};
+ghost use mathlib.Core.Bool.{cond};
+ghost use lib.Dec.{ltb};
+ghost use Rattle.forward.specs.Step.{noState};
+ghost use Rattle.checks.specs.Batch.{view, historyOf, weightsOf};
 ghost use Rattle.columns.specs.ForwardPass.{rowScore, stateAt, storedDef, runAt, gradsDef};
 use crate::records::store_step;
 use crate::scores::Score;
 use crate::scores::bce_loss_and_grad_r;
+use checks::align::Align;
+use checks::align::row_from;
+use checks::align::weighed;
 use checks::tables::cell_of;
 use checks::tables::read;
 use checks::tables::write_f64;
@@ -19,15 +26,26 @@ pub struct Run {
     pub loss: f64,
 }
 
+// The state after a row: (0, 0) up to the first review.
+fn carried(row: u32, first: u32, next: State) -> State
+    ensures { λ r. ⌜ r ≡ cond (ltb row first) noState next ⌝ }
+{
+    if row < first {
+        return State { s: 0.0, d: 0.0 };
+    }
+    next
+}
+
 pub fn prefix_forward(
     p: RuntimeParams,
     t_hist: &[f32],
     r_hist: &[f32],
     batch: u32,
     column: u32,
+    first: u32,
     n: u32,
 ) -> State
-    ensures { λ r. ⌜ r ≡ stateAt p (historyOf (now («t_hist» .entry)) (now («r_hist» .entry)) batch column) n ⌝ }
+    ensures { λ r. ⌜ r ≡ stateAt p (historyOf (now («t_hist» .entry)) (now («r_hist» .entry)) batch column first) n ⌝ }
 {
     let mut q = State { s: 0.0, d: 0.0 };
     let mut i = 0;
@@ -35,8 +53,9 @@ pub fn prefix_forward(
         let k = cell_of(i, batch, column);
         let day = read(t_hist, k);
         let rating = read(r_hist, k);
-        let next = step_forward(p, q, day, rating, i as usize);
-        q = next.state;
+        let number = row_from(i, first);
+        let next = step_forward(p, q, day, rating, number as usize);
+        q = carried(i, first, next.state);
         i += 1;
     }
     q
@@ -48,12 +67,13 @@ pub fn prefix_forward_recorded(
     r_hist: &[f32],
     batch: u32,
     column: u32,
+    first: u32,
     n: u32,
     records: &mut [f32],
 ) -> State
     ensures { λ r. ⌜
-        (r ≡ stateAt p (historyOf (now («t_hist» .entry)) (now («r_hist» .entry)) batch column) n) ×
-        (now (records .exit) ≡ storedDef p (historyOf (now («t_hist» .entry)) (now («r_hist» .entry)) batch column) n
+        (r ≡ stateAt p (historyOf (now («t_hist» .entry)) (now («r_hist» .entry)) batch column first) n) ×
+        (now (records .exit) ≡ storedDef p (historyOf (now («t_hist» .entry)) (now («r_hist» .entry)) batch column first) n
         (now (records .entry))) ⌝ }
 {
     let mut q = State { s: 0.0, d: 0.0 };
@@ -62,16 +82,17 @@ pub fn prefix_forward_recorded(
         let k = cell_of(i, batch, column);
         let day = read(t_hist, k);
         let rating = read(r_hist, k);
-        let next = step_forward(p, q, day, rating, i as usize);
+        let number = row_from(i, first);
+        let next = step_forward(p, q, day, rating, number as usize);
         let step = next.step;
         store_step(records, i, step);
-        q = next.state;
+        q = carried(i, first, next.state);
         i += 1;
     }
     q
 }
 
-// Row 0 has no state before it to score.
+// The first review has no state before it to score.
 pub(crate) fn row_score(row: u32, r: f32, label: f32, weight: f32) -> Score
     ensures { λ q. ⌜ q ≡ rowScore row r label weight ⌝ }
 {
@@ -86,17 +107,19 @@ pub(crate) fn row_score(row: u32, r: f32, label: f32, weight: f32) -> Score
 
 pub fn card_forward(
     p: RuntimeParams,
+    align: Align,
     t_hist: &[f32],
     r_hist: &[f32],
     batch: u32,
     labels: &[f32],
     weights: &[f32],
     column: u32,
+    first: u32,
     n: u32,
 ) -> Run
     ensures { λ r. ⌜
-        r ≡ runAt p (historyOf (now («t_hist» .entry)) (now («r_hist» .entry)) batch column)
-        (view (now (labels .entry)) batch column) (view (now (weights .entry)) batch column) n ⌝ }
+        r ≡ runAt p (historyOf (now («t_hist» .entry)) (now («r_hist» .entry)) batch column first)
+        (view (now (labels .entry)) batch column) (weightsOf align (now («r_hist» .entry)) (now (weights .entry)) batch column) n ⌝ }
 {
     let mut q = State { s: 0.0, d: 0.0 };
     let mut loss = 0.0;
@@ -106,12 +129,13 @@ pub fn card_forward(
         let day = read(t_hist, k);
         let rating = read(r_hist, k);
         let label = read(labels, k);
-        let weight = read(weights, k);
-        let next = step_forward(p, q, day, rating, i as usize);
+        let weight = weighed(align, rating, read(weights, k));
+        let number = row_from(i, first);
+        let next = step_forward(p, q, day, rating, number as usize);
         let step = next.step;
-        let score = row_score(i, step.retrievability, label, weight);
+        let score = row_score(number, step.retrievability, label, weight);
         loss = loss + score.loss;
-        q = next.state;
+        q = carried(i, first, next.state);
         i += 1;
     }
     Run { state: q, loss }
@@ -119,23 +143,25 @@ pub fn card_forward(
 
 pub fn card_forward_recorded(
     p: RuntimeParams,
+    align: Align,
     t_hist: &[f32],
     r_hist: &[f32],
     batch: u32,
     labels: &[f32],
     weights: &[f32],
     column: u32,
+    first: u32,
     n: u32,
     records: &mut [f32],
     step_grads: &mut [f64],
 ) -> Run
     ensures { λ r. ⌜
-        (r ≡ runAt p (historyOf (now («t_hist» .entry)) (now («r_hist» .entry)) batch column)
-        (view (now (labels .entry)) batch column) (view (now (weights .entry)) batch column) n) ×
-        (now (records .exit) ≡ storedDef p (historyOf (now («t_hist» .entry)) (now («r_hist» .entry)) batch column) n
+        (r ≡ runAt p (historyOf (now («t_hist» .entry)) (now («r_hist» .entry)) batch column first)
+        (view (now (labels .entry)) batch column) (weightsOf align (now («r_hist» .entry)) (now (weights .entry)) batch column) n) ×
+        (now (records .exit) ≡ storedDef p (historyOf (now («t_hist» .entry)) (now («r_hist» .entry)) batch column first) n
         (now (records .entry))) ×
-        (now («step_grads» .exit) ≡ gradsDef p (historyOf (now («t_hist» .entry)) (now («r_hist» .entry)) batch column)
-        (view (now (labels .entry)) batch column) (view (now (weights .entry)) batch column) n (now («step_grads» .entry))) ⌝ }
+        (now («step_grads» .exit) ≡ gradsDef p (historyOf (now («t_hist» .entry)) (now («r_hist» .entry)) batch column first)
+        (view (now (labels .entry)) batch column) (weightsOf align (now («r_hist» .entry)) (now (weights .entry)) batch column) n (now («step_grads» .entry))) ⌝ }
 {
     let mut q = State { s: 0.0, d: 0.0 };
     let mut loss = 0.0;
@@ -145,15 +171,16 @@ pub fn card_forward_recorded(
         let day = read(t_hist, k);
         let rating = read(r_hist, k);
         let label = read(labels, k);
-        let weight = read(weights, k);
-        let next = step_forward(p, q, day, rating, i as usize);
+        let weight = weighed(align, rating, read(weights, k));
+        let number = row_from(i, first);
+        let next = step_forward(p, q, day, rating, number as usize);
         let step = next.step;
-        let score = row_score(i, step.retrievability, label, weight);
+        let score = row_score(number, step.retrievability, label, weight);
         let g_r = score.g_r;
         store_step(records, i, step);
         write_f64(step_grads, i as usize, g_r);
         loss = loss + score.loss;
-        q = next.state;
+        q = carried(i, first, next.state);
         i += 1;
     }
     Run { state: q, loss }
