@@ -1,3 +1,4 @@
 // The card loss: with its gradient, and alone.
 pub mod grad;
+mod last;
 pub mod loss;

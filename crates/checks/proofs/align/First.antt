@@ -90,11 +90,11 @@ firsts-same f g (suc n) h = rw (firsts-same f g n (λ i l. h i (lt-of-lt-of-le l
 
 -- ---- in either mode
 module _ (align : Align) where
-  at-start : (rating : ℕ → Float) (n : ℕ) → isEnd align ≡ false → firstOf align rating n ≡ 0
+  pub at-start : (rating : ℕ → Float) (n : ℕ) → isEnd align ≡ false → firstOf align rating n ≡ 0
   unfolding firstOf
   at-start rating n e = rw e
 
-  at-end : (rating : ℕ → Float) (n : ℕ) → isEnd align ≡ true → firstOf align rating n ≡ firstNonZero rating n
+  pub at-end : (rating : ℕ → Float) (n : ℕ) → isEnd align ≡ true → firstOf align rating n ≡ firstNonZero rating n
   unfolding firstOf
   at-end rating n e = rw e
 

@@ -29,6 +29,7 @@ module _ (K : Kind) where
     pub turned-inputs : (x y : K .Input) → SameInputs K x y → SameInputs K y x
     turned-inputs x y h =
         record {
+          modes = sym (h .modes);
           rows = sym (h .rows);
           columns = sym (h .columns);
           counts = sym (h .counts);
@@ -64,7 +65,15 @@ module _ (K : Kind) where
     alike : (a : Float) → inBox k a ≡ true → Alike K c (with-weight K c k a)
     alike a good =
         record {
-          inputs = record { rows = refl; columns = refl; counts = refl; sizes = λ s. refl; lengths = λ column l. refl; cells = λ s row column e. refl };
+          inputs = record {
+            modes = refl;
+            rows = refl;
+            columns = refl;
+            counts = refl;
+            sizes = λ s. refl;
+            lengths = λ column l. refl;
+            cells = λ s row column e. refl;
+          };
           weights = record { boxed = (passed c accepted .0, still-boxed (c .w) k a good (passed c accepted .0)); weights = λ j e. others (c .w) k a good j (other j e) };
           room = (passed c accepted .1, room c k a ∙ passed c accepted .1);
           gradients = refl;

@@ -1,0 +1,20 @@
+use Rattle.checks.specs.Align.{counts}
+use borrow.Author.Needs.{needs}
+use Rattle.checks.proofs.align.is_counted.Statement.{statement}
+use Rattle.checks.proofs.align.is_counted.Tie as tie
+
+is-end-requires : tie.Need-is-end-requires
+is-end-requires c κs = search needs
+
+is-nonzero-requires : tie.Need-is-nonzero-requires
+is-nonzero-requires c κs = search needs
+
+either-requires : tie.Need-either-requires
+either-requires c κs = search needs
+
+returns : tie.Need-returns
+unfolding counts
+returns c = rw (c .either .ensures, c .before .is-nonzero .ensures, c .before .before .is-end .ensures)
+
+pub is-counted-spec : {M : Type 1} → statement M
+is-counted-spec = tie.close (tie.spec is-end-requires is-nonzero-requires either-requires returns)
