@@ -2,7 +2,7 @@
 // reviews count. The rows of a column are numbered from its first review.
 ghost use mathlib.Core.Path.{_≡_};
 ghost use Prim.Native.Nat.{_-_};
-ghost use Rattle.checks.specs.Align.{isEnd, alignOf, counts, weighed, firstOf, targetRead, targetWeight};
+ghost use Rattle.checks.specs.Align.{isEnd, alignOf, counts, weighed, firstOf, targetWeight};
 ghost use Rattle.checks.specs.Batch.{view};
 use crate::reads::is_nonzero;
 use crate::tables::cell_of;
@@ -72,12 +72,20 @@ fn is_counted(align: Align, rating: f32) -> bool
 pub fn weighed(align: Align, rating: f32, weight: f32) -> f32
     ensures { λ r. ⌜ r ≡ weighed align rating weight ⌝ }
 {
-    if is_counted(align, rating) { weight } else { 0.0 }
+    if is_counted(align, rating) {
+        weight
+    } else {
+        0.0
+    }
 }
 
 // The weight of the target behind n rows; 0 where these are all padding.
 pub fn target_weight(align: Align, first: u32, n: u32, weight: f32) -> f32
     ensures { λ r. ⌜ r ≡ targetWeight align first n weight ⌝ }
 {
-    if either(!is_end(align), first < n) { weight } else { 0.0 }
+    if either(!is_end(align), first < n) {
+        weight
+    } else {
+        0.0
+    }
 }

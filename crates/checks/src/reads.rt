@@ -2,10 +2,8 @@
 // order rating, day, weight, label. A cell that is not read is not asked about.
 ghost use mathlib.Core.Path.{_≡_};
 ghost use mathlib.Core.Bool.{not, cond};
-ghost use lib.Ieee.{eq};
-ghost use Rattle.domain.specs.Limits.{zero32};
-ghost use Rattle.checks.specs.Reads.{ratingGood, weightGood, labelGood, later, isLast, nonZero, prefixDay};
-ghost use Rattle.checks.specs.Reads.{cardDay, cardLabel, check, first, prefixRow, cardScore, cardRow, targetDef};
+ghost use Rattle.checks.specs.Reads.{ratingGood, weightGood, labelGood, later, isLast, nonZero};
+ghost use Rattle.checks.specs.Reads.{cardDay, check, first, prefixRow, cardScore, cardRow, targetDef};
 use domain::floats::is_within;
 use domain::limits::is_day;
 use soft::flags::both;

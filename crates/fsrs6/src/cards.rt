@@ -90,7 +90,17 @@ pub extern "C" fn fsrs_card_loss_in(
         Answered (cardsLoss (now (w .entry)) (cardsIn (alignOf end) (now («t_hist» .entry)) (now («r_hist» .entry)) «seq_len» batch
         (now («seq_lens» .entry)) (now (labels .entry)) (now (weights .entry)))) n (now (loss .entry)) (now (loss .exit)) ⌝ }
 {
-    let a = card_loss_in(align_of(end), w, t_hist, r_hist, seq_len, batch, seq_lens, labels, weights);
+    let a = card_loss_in(
+        align_of(end),
+        w,
+        t_hist,
+        r_hist,
+        seq_len,
+        batch,
+        seq_lens,
+        labels,
+        weights,
+    );
     put_f64(loss, a.refusal, a.loss);
     a.refusal
 }

@@ -1,7 +1,6 @@
 -- Demand 3 of the eight loss entries: their contracts, and `promises` of the definitions that these name. Assumes nothing.
-use Prim.Native.Nat.{ℕ}
 use mathlib.Core.List.{List}
-use mathlib.Core.Path.{_≡_, sym, ap, _∙_}
+use mathlib.Core.Path.{sym, ap, _∙_}
 use lib.Ieee.{Float}
 use Rattle.domain.specs.Weights.{_!_}
 use Rattle.promises.proofs.Frozen.{demand3}

@@ -1,5 +1,5 @@
 -- Demand 1: a refused call leaves each lent slice and place as it was. A line for each function that lends by `&mut` and can refuse. Assumes nothing.
-use mathlib.Core.Path.{refl, ap, _∙_}
+use mathlib.Core.Path.{ap, _∙_}
 use Rattle.outcomes.specs.Outcome.{Kept, keeps}
 use Rattle.outcomes.proofs.Tuples.{_⨾_, end, still, back}
 use Rattle.outcomes.proofs.Refused.{refused}

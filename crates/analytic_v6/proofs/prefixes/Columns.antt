@@ -1,7 +1,7 @@
 -- A column's walk over what it stored is the walk over its records. Assumes nothing.
-use Prim.Native.Nat.{ℕ, zero, suc, _+_, _≤_, _<_}
+use Prim.Native.Nat.{ℕ, zero, suc, _≤_}
 use mathlib.Core.List.{List, [], _∷_}
-use mathlib.Core.Path.{_≡_, refl, sym, ap, _∙_, subst}
+use mathlib.Core.Path.{_≡_, refl, ap, _∙_}
 use lib.Ieee.{Float}
 use lib.ListN.{getD, length}
 use Rattle.domain.specs.Doubles.{zero64}
@@ -14,8 +14,7 @@ use Rattle.columns.specs.Records.{roomDef, loadDef}
 use Rattle.columns.specs.BackwardPass.{startGrad, backDef}
 use Rattle.columns.specs.LastReview.{targetLoss, targetGrad, targetSlots}
 use Rattle.columns.specs.ForwardPass.{stateAt, recordAt, storedDef}
-use Rattle.columns.specs.declared.last_review.Ending.{Ending}
-use Rattle.columns.proofs.Kept.{path-length, path-read, back-same}
+use Rattle.columns.proofs.Kept.{path-read, back-same}
 use Rattle.analytic_v6.specs.Prefixes.{prefixLoss, prefixSlots, prefixRecords}
 
 -- no step of a prefix is scored

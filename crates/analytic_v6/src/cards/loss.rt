@@ -133,7 +133,15 @@ pub fn card_loss_in(
     let v = copy_weights(w);
     let p = runtime_params(&v);
     let loss = batch_total(
-        p, align, t_hist, r_hist, seq_len, batch, seq_lens, labels, weights,
+        p,
+        align,
+        t_hist,
+        r_hist,
+        seq_len,
+        batch,
+        seq_lens,
+        labels,
+        weights,
     );
     Loss { refusal: 0, loss }
 }

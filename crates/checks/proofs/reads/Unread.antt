@@ -1,6 +1,6 @@
 -- A row's number depends on no cell but those that count as read. Assumes nothing.
 use Prim.Native.Nat.{ℕ}
-use mathlib.Core.Bool.{Bool, true, false, not, _&&_, _||_, cond}
+use mathlib.Core.Bool.{Bool, true, false, not, _&&_, cond}
 use mathlib.Core.Path.{_≡_, refl, ap}
 use lib.Ieee.{Float}
 use Rattle.domain.specs.Limits.{dayGood}

@@ -71,7 +71,17 @@ fn card_column(
 {
     let n = cut_length(seq_lens, seq_len, column);
     let first = first_review(align, r_hist, batch, column, n);
-    card_rows(align, t_hist, r_hist, batch, labels, weights, column, first, n)
+    card_rows(
+        align,
+        t_hist,
+        r_hist,
+        batch,
+        labels,
+        weights,
+        column,
+        first,
+        n,
+    )
 }
 
 // Columns ascending.

@@ -17,14 +17,7 @@ use crate::tables::cell_of;
 use crate::tables::cut_length;
 use crate::tables::read;
 
-fn prefix_rows(
-    t_hist: &[f32],
-    r_hist: &[f32],
-    batch: u32,
-    column: u32,
-    first: u32,
-    n: u32,
-) -> Fault
+fn prefix_rows(t_hist: &[f32], r_hist: &[f32], batch: u32, column: u32, first: u32, n: u32) -> Fault
     ensures { λ r. ⌜ r ≡ prefixRows (historyOf (now («t_hist» .entry)) (now («r_hist» .entry)) batch column first) column n ⌝ }
 {
     let mut i = 0;

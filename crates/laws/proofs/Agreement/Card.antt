@@ -8,9 +8,9 @@ use native.Mathlib.Omega.{arith}
 use borrow.Author.Tests.{eq-eqb, ne-eqb, eqb-false}
 use lib.Dec.{eqb}
 use lib.Ieee.{Float}
-use Rattle.domain.specs.Doubles.{_+ᵈ_, zero64}
+use Rattle.domain.specs.Doubles.{zero64}
 use Rattle.domain.specs.Weights.{_!_}
-use Rattle.checks.specs.Reads.{later, isLast, nonZero, prefixDay, cardDay, cardRating, cardLabel, cardRow}
+use Rattle.checks.specs.Reads.{isLast, prefixDay, cardDay, cardRating, cardLabel, cardRow}
 use Rattle.checks.specs.Align.{isEnd}
 use Rattle.checks.specs.Batch.{History, Cards, lengthAt, history, labelAt, weightAt}
 use Rattle.checks.specs.Faults.{faultAt, rowsFault, cardRows, cardColumn}

@@ -1,12 +1,11 @@
 -- Down a column: the states and the records depend on no cell and no weight but those that the steps read. Assumes nothing.
 use Prim.Native.Nat.{ℕ, zero, suc, _-_, _<_}
-use mathlib.Core.Bool.{Bool, true, false, not, _&&_, cond}
+use mathlib.Core.Bool.{Bool, true, false}
 use mathlib.Core.List.{List}
 use mathlib.Core.Path.{_≡_, refl, sym, ap, _∙_}
 use native.Mathlib.Nat.{le-suc, le-of-lt, lt-of-lt-of-le, lt-suc-self, suc-ne-zero}
-use native.Mathlib.Omega.{arith}
 use lib.Ieee.{Float, eq, ofBits}
-use borrow.Author.Tests.{ne-eqb, lt-ltb}
+use borrow.Author.Tests.{ne-eqb}
 use Rattle.domain.specs.Limits.{zero32}
 use Rattle.checks.specs.Reads.{later, nonZero, prefixDay}
 use Rattle.forward.specs.Params.{paramsDef}
@@ -18,6 +17,7 @@ use Rattle.forward.specs.Step.{noState, isFirst, stepDef}
 use Rattle.forward.specs.declared.state.Stepped.{Stepped}
 use Rattle.forward.proofs.Agreement.{same-step}
 use Rattle.forward.proofs.Unread.{padding-day, first-day}
+use Rattle.columns.proofs.Before.{none-before}
 use Rattle.columns.specs.ForwardPass.{stepAt, stateAt, recordAt}
 
 -- a review's day is read in every row but the first
@@ -43,12 +43,6 @@ module _ (p : RuntimeParams) (day other rating : Float) where
       stepDef p q day rating row ≡ stepDef p q other rating row
   day-unread q zero z h = rw (z refl) at-first
   day-unread q (suc row) z h = after-first q row h
-
--- up to the first review the state is (0, 0)
-pub none-before : (p : RuntimeParams) (h : History) (row : ℕ) → row - h .first ≡ 0 → stateAt p h row ≡ noState
-unfolding stateAt
-none-before p h zero e = refl
-none-before p h (suc row) e = rw (lt-ltb row (h .first) (omega (arith, e)))
 
 module _ (w v : List Float) (h h′ : History) where
   abbrev pub stateOf : (row : ℕ) → State

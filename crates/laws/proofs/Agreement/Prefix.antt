@@ -1,12 +1,11 @@
 -- A prefix: its fault, its loss and its slots, from the cells and weights that count as read. Assumes nothing.
 use Prim.Native.Nat.{ℕ, _-_, _<_}
-use mathlib.Core.Bool.{Bool, true, false, not, _&&_}
+use mathlib.Core.Bool.{true, false, _&&_}
 use mathlib.Core.List.{List}
 use mathlib.Core.Path.{_≡_, refl, ap, _∙_}
 use lib.Dec.{eqb}
-use lib.Ieee.{Float, eq}
+use lib.Ieee.{Float}
 use Rattle.domain.specs.Doubles.{zero64}
-use Rattle.domain.specs.Limits.{zero32}
 use Rattle.domain.specs.Weights.{_!_}
 use Rattle.checks.specs.Reads.{nonZero, prefixDay, prefixRow, targetDef}
 use Rattle.checks.specs.Batch.{History, Prefixes, lengthAt, history, targetWeightAt}
@@ -15,8 +14,7 @@ use Rattle.forward.specs.Params.{paramsDef}
 use Rattle.forward.specs.declared.parameters.RuntimeParams.{RuntimeParams}
 use Rattle.forward.specs.WeightsRead.{stepReads, Agree}
 use Rattle.forward.specs.declared.state.State.{State}
-use Rattle.columns.specs.BackwardPass.{startGrad}
-use Rattle.columns.specs.LastReview.{targetLoss, targetGrad, targetSlots}
+use Rattle.columns.specs.LastReview.{targetGrad, targetSlots}
 use Rattle.columns.specs.ForwardPass.{stateAt, recordAt}
 use Rattle.analytic_v6.specs.Prefixes.{targetStability, prefixLoss, prefixSlots}
 use Rattle.checks.proofs.reads.Unread.{prefix-row-same, target-same}

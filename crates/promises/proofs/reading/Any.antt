@@ -1,20 +1,16 @@
 -- What follows for either kind: the statement is symmetric, and a weight that no column reads is free. Assumes nothing.
 use Prim.Native.Nat.{ℕ}
-use mathlib.Core.Bool.{Bool, true, false, _&&_}
-use mathlib.Core.List.{List}
+use mathlib.Core.Bool.{true, false}
 use mathlib.Core.Path.{_≡_, refl, sym, ap, _∙_, subst}
-use borrow.Author.Tests.{eq-eqb, eqb-true, ne-eqb}
+use borrow.Author.Tests.{eq-eqb, ne-eqb}
 use lib.Dec.{T, eqb, ltb}
 use lib.Ieee.{Float}
-use lib.ListN.{length, set}
 use Rattle.domain.specs.Weights.{_!_, inBox, weightsRefusal}
-use Rattle.checks.specs.Batch.{lengthAt}
 use Rattle.forward.proofs.Agreement.{by-cases}
 use Rattle.analytic_v6.specs.Answers.{answer}
-use Rattle.analytic_v6.specs.declared.answers.Loss.{Loss}
-use Rattle.promises.specs.CallReads.{Slice, stepsRead, callReads, callMoves}
+use Rattle.promises.specs.CallReads.{Slice, callReads}
 use Rattle.promises.specs.LossCalls.{Call, Kind}
-use Rattle.promises.specs.Frozen.{SameInputs, SameWeights, Alike, weightRead, mayMove, with-weight}
+use Rattle.promises.specs.Frozen.{SameInputs, Alike, weightRead, mayMove, with-weight}
 use Rattle.promises.proofs.reading.Box.{still-boxed, others}
 use Rattle.promises.proofs.reading.Steps.{SameSteps, steps-read-same, moves-none}
 

@@ -1,17 +1,18 @@
 -- Demand 3 for cards. Assumes nothing.
 use Prim.Native.Nat.{ℕ, _-_, _<_}
-use mathlib.Core.Bool.{Bool, true, false, not, _&&_, _||_, cond}
+use mathlib.Core.Bool.{Bool, true, false, _&&_}
 use mathlib.Core.List.{List}
 use mathlib.Core.Path.{_≡_, refl, sym, ap, _∙_}
 use native.Mathlib.Omega.{arith}
-use borrow.Author.Tests.{eq-eqb, eqb-true, eqb-false, ltb-true, lt-ltb}
+use borrow.Author.Tests.{eqb-true, eqb-false, ltb-true, lt-ltb}
 use lib.Dec.{eqb, leb, ltb}
 use lib.Ieee.{Float}
 use lib.ListN.{length}
-use Rattle.domain.specs.Weights.{_!_, weightsRefusal}
-use Rattle.checks.specs.Align.{isEnd, counts, weighed}
-use Rattle.checks.specs.Reads.{later, isLast, nonZero, prefixDay, cardRating, cardLabel}
+use Rattle.domain.specs.Weights.{weightsRefusal}
+use Rattle.checks.specs.Align.{isEnd, counts}
+use Rattle.checks.specs.Reads.{later, isLast, cardRating, cardLabel}
 use Rattle.checks.proofs.align.First.{first-same}
+use Rattle.checks.proofs.align.Counted.{counts-same, weighed-same}
 use Rattle.checks.proofs.reads.Unread.{and-same, card-day-read, card-label-read}
 use Rattle.checks.specs.Batch.{Cards, lengthAt, firstAt, at, weightAt}
 use Rattle.checks.specs.Faults.{firstFault, cardColumn, cardFault}
@@ -19,14 +20,13 @@ use Rattle.checks.specs.declared.align.Align.{Align}
 use Rattle.checks.specs.declared.fault.Fault.{Fault}
 use Rattle.checks.specs.Refusals.{lossRefusal, gradRefusal, longestOf, cardsSized, cardLossRefusal, cardGradRefusal}
 use Rattle.checks.proofs.Orders.{grad-accepted}
-use Rattle.forward.proofs.Agreement.{by-cases}
 use Rattle.columns.specs.Records.{roomDef}
 use Rattle.analytic_v6.specs.Cards.{cardLoss, cardSlots, cardsLossAndGrad, cardsSlots, cardsLoss}
 use Rattle.laws.proofs.Agreement.Card.{last-inside, card-record-same, inside, rating-read, day-read, RowAt, CardCells, card-fault-same, card-loss-same, card-slots-same, card-keeps}
 use Rattle.laws.proofs.Agreement.Faults.{faults-same}
 use Rattle.analytic_v6.proofs.cards.Entry.{halves}
-use Rattle.promises.specs.CallReads.{Slice, days, ratings, targets, labels, weights, inside as in-table, cardCell, cardReads, callMoves}
-use Rattle.promises.specs.LossCalls.{Call, Kind, cardSlice, cards}
+use Rattle.promises.specs.CallReads.{Slice, days, ratings, targets, labels, weights, inside as in-table, cardCell, cardReads}
+use Rattle.promises.specs.LossCalls.{Call, cardSlice, cards}
 use Rattle.promises.specs.Frozen.{SameInputs, Alike, Frozen}
 use Rattle.promises.proofs.reading.Both.{frozen}
 use Rattle.promises.proofs.reading.Steps.{SameSteps}
@@ -35,21 +35,6 @@ use Rattle.promises.proofs.reading.Steps.{SameSteps}
 no-label : (row : ℕ) (a b : Float) → row ≡ 0 → cardLabel row a ≡ cardLabel row b
 unfolding cardLabel later
 no-label row a b z = rw z
-
--- what counts hangs on the rating at the end alone, and a weight only where it counts
-module _ (align : Align) (rating rating′ : Float) (r : isEnd align ≡ true → rating ≡ rating′) where
-  counts-same : counts align rating ≡ counts align rating′
-  unfolding counts
-  counts-same = go (isEnd align) refl
-    where
-      go : (b : Bool) → b ≡ isEnd align → not b || nonZero rating ≡ not b || nonZero rating′
-      go true e = ap nonZero (r (sym e))
-      go false e = refl
-
-  weighed-same :
-      (weight weight′ : Float) → (counts align rating ≡ true → weight ≡ weight′) → weighed align rating weight ≡ weighed align rating′ weight′
-  unfolding weighed
-  weighed-same weight weight′ h = by-cases (counts align rating) _ _ _ _ h (λ e. refl) ∙ (rw counts-same)
 
 module _ (x y : Cards) (same : SameInputs cards x y) where
   abbrev c : ℕ

@@ -1,10 +1,10 @@
 -- Demand 3 for prefixes. Assumes nothing.
 use Prim.Native.Nat.{ℕ, _-_, _<_}
-use mathlib.Core.Bool.{Bool, true, false, _&&_, cond}
+use mathlib.Core.Bool.{Bool, true, _&&_}
 use mathlib.Core.List.{List}
-use mathlib.Core.Path.{_≡_, refl, sym, ap, _∙_}
-use borrow.Author.Tests.{eq-eqb, eqb-true, ltb-true, lt-ltb}
-use lib.Dec.{eqb, leb, ltb}
+use mathlib.Core.Path.{_≡_, refl, ap, _∙_}
+use borrow.Author.Tests.{ltb-true, lt-ltb}
+use lib.Dec.{leb, ltb}
 use lib.Ieee.{Float}
 use lib.ListN.{length}
 use Rattle.domain.specs.Weights.{_!_, weightsRefusal}
@@ -23,8 +23,8 @@ use Rattle.analytic_v6.specs.Prefixes.{prefixLoss, prefixSlots, batchLossAndGra
 use Rattle.laws.proofs.Agreement.Faults.{faults-same}
 use Rattle.laws.proofs.Agreement.Prefix.{PrefixCells, prefix-record-same, prefix-fault-same, prefix-loss-same, prefix-slots-same, prefix-keeps}
 use Rattle.analytic_v6.proofs.cards.Entry.{halves}
-use Rattle.promises.specs.CallReads.{Slice, days, ratings, targets, labels, weights, inside, prefixCell, prefixReads, callReads, callMoves}
-use Rattle.promises.specs.LossCalls.{Call, Kind, prefixSlice, prefixes}
+use Rattle.promises.specs.CallReads.{Slice, days, ratings, targets, labels, weights, inside, prefixCell, prefixReads}
+use Rattle.promises.specs.LossCalls.{Call, prefixSlice, prefixes}
 use Rattle.promises.specs.Frozen.{SameInputs, Alike, Frozen}
 use Rattle.promises.proofs.reading.Both.{frozen}
 use Rattle.promises.proofs.reading.Steps.{SameSteps}

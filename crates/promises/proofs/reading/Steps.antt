@@ -1,7 +1,7 @@
 -- The weights that the steps of a call read, row by row, and the slots that they may move. Assumes nothing.
 use Prim.Native.Nat.{ℕ, zero, suc, _-_, _<_}
-use mathlib.Core.Bool.{Bool, true, false, _&&_, _||_, cond}
-use mathlib.Core.List.{List, []}
+use mathlib.Core.Bool.{Bool, true, false, _&&_, _||_}
+use mathlib.Core.List.{List}
 use mathlib.Core.Path.{_≡_, refl, sym, ap, _∙_, subst}
 use native.Mathlib.Nat.{suc-ne-zero}
 use borrow.Author.Tests.{ne-eqb}
@@ -13,15 +13,15 @@ use Rattle.checks.specs.Reads.{later, nonZero, prefixDay}
 use Rattle.checks.specs.Batch.{Table, History, firstAt, at, history}
 use Rattle.forward.specs.Params.{paramsDef}
 use Rattle.forward.specs.declared.parameters.RuntimeParams.{RuntimeParams}
-use Rattle.forward.specs.WeightsRead.{among, firstWeights, reviewReads, stepReads, Agree}
-use Rattle.forward.specs.Step.{noState, isFirst, ratingNumber}
+use Rattle.forward.specs.WeightsRead.{among, reviewReads, stepReads, Agree}
+use Rattle.forward.specs.Step.{noState, isFirst}
 use Rattle.forward.specs.declared.state.State.{State}
 use Rattle.forward.specs.declared.state.StepRecord.{StepRecord}
 use Rattle.forward.proofs.Agreement.{by-cases}
 use Rattle.backward.specs.Moves.{slotsOf}
 use Rattle.backward.proofs.Keeps.{or-left, or-right}
 use Rattle.columns.specs.ForwardPass.{stateAt, recordAt}
-use Rattle.laws.proofs.Agreement.Path.{none-before}
+use Rattle.columns.proofs.Before.{none-before}
 use Rattle.laws.proofs.Agreement.Walk.{Still, still-unread}
 use Rattle.promises.specs.CallReads.{some, rowReads, stepsRead, callReads, columnMoves, callMoves}
 use Rattle.promises.proofs.reading.Some.{none-of, none-some, some-of, some-same}

@@ -15,6 +15,7 @@ use Rattle.checks.specs.Refusals.{cardGradRefusal}
 use Rattle.checks.specs.declared.align.Align.{Align}
 use Rattle.checks.specs.declared.align.Align.the-variants.{Start, End}
 use Rattle.analytic_v6.specs.Cards.{cardLoss, cardSlots}
+use Rattle.checks.proofs.align.Counted.{review-kept}
 use Rattle.laws.proofs.Agreement.Faults.{faults-same}
 use Rattle.promises.specs.Aligned.{ShiftedCard, Same, cardsAs, callWith, Reviewed, LastGood}
 use Rattle.promises.specs.LossCalls.{Call, cards}
@@ -22,7 +23,7 @@ use Rattle.promises.proofs.shifting.Card.{card-loss, card-slots}
 use Rattle.promises.proofs.shifting.CardFault.{rowAt}
 use Rattle.promises.proofs.shifting.Calls.{outcome}
 use Rattle.promises.proofs.shifting.Whole.{card-entries}
-use Rattle.promises.proofs.shifting.Modes.{weight-kept, tableAs, from-0, not-moved, both-modes}
+use Rattle.promises.proofs.shifting.Modes.{tableAs, from-0, not-moved, both-modes}
 
 -- the modes differ in whether the last rating is read
 end-same :
@@ -62,7 +63,7 @@ module _ (x : Cards) (reviewed : Reviewed (x .table)) (good : LastGood (x .table
         rowAt (cardsAs align x) column n (history (tableAs align (x .table)) column) row ≡
         cardRow (isEnd align) (isLast n row) row (day row) (rating row) (weight row) (labelAt x column row)
     plain-row align row k =
-        rw (from-0 (x .table) column reviews align, sub-zero row, weight-kept align (rating row) (weight row) (reviews row k))
+        rw (from-0 (x .table) column reviews align, sub-zero row, review-kept align (rating row) (weight row) (reviews row k))
 
     column-fault : cardColumn (cardsAs Start x) column ≡ cardColumn (cardsAs End x) column
     unfolding cardColumn rowsFault isEnd

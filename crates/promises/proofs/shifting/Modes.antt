@@ -5,7 +5,7 @@ use mathlib.Core.List.{List}
 use mathlib.Core.Path.{_≡_, refl}
 use native.Mathlib.Nat.{add-zero, zero-lt-suc}
 use lib.Ieee.{Float}
-use Rattle.checks.specs.Align.{isEnd, firstOf, counts, weighed}
+use Rattle.checks.specs.Align.{isEnd, firstOf}
 use Rattle.checks.specs.Batch.{Table, lengthAt, view, at}
 use Rattle.checks.specs.Reads.{nonZero}
 use Rattle.checks.specs.declared.align.Align.{Align}
@@ -19,11 +19,6 @@ unfolding firstOf isEnd
 first-none Start rating n h = refl
 first-none End rating zero h = none-found rating
 first-none End rating (suc n) h = found-at rating 0 (suc n) (zero-lt-suc n) (none-found rating) (h 0 (zero-lt-suc n))
-
-pub weight-kept : (align : Align) (rating w : Float) → nonZero rating ≡ true → weighed align rating w ≡ w
-unfolding weighed counts isEnd
-weight-kept Start rating w e = refl
-weight-kept End rating w e = rw e
 
 abbrev pub tableAs : (align : Align) → Table → Table
 tableAs align t =

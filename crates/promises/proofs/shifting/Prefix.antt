@@ -3,17 +3,17 @@ use Prim.Native.Nat.{ℕ, _<_}
 use mathlib.Core.Bool.{true}
 use mathlib.Core.List.{List}
 use mathlib.Core.Path.{_≡_, refl, sym, ap, _∙_, subst}
-use native.Mathlib.Nat.{le-refl, le-of-eq}
+use native.Mathlib.Nat.{le-refl}
 use native.Mathlib.Omega.{arith}
-use borrow.Author.Tests.{le-ltb, lt-ltb}
 use lib.Ieee.{Float, eq, ofBits}
 use Rattle.domain.specs.Doubles.{zero64}
 use Rattle.domain.specs.Limits.{zero32}
 use Rattle.domain.specs.Weights.{_!_}
-use Rattle.checks.specs.Align.{isEnd, targetRead, targetWeight}
+use Rattle.checks.specs.Align.{targetWeight}
+use Rattle.checks.proofs.align.Counted.{target-kept, target-weightless}
 use Rattle.checks.specs.Batch.{History, Prefixes, lengthAt, firstAt, history, targetWeightAt}
 use Rattle.checks.specs.declared.align.Align.{Align}
-use Rattle.checks.specs.declared.align.Align.the-variants.{Start, End}
+use Rattle.checks.specs.declared.align.Align.the-variants.{End}
 use Rattle.forward.specs.declared.parameters.RuntimeParams.{RuntimeParams}
 use Rattle.forward.specs.declared.state.State.{State}
 use Rattle.backward.specs.declared.step.StateGrad.{StateGrad}
@@ -24,16 +24,6 @@ use Rattle.analytic_v6.specs.Prefixes.{prefixLoss, prefixSlots}
 use Rattle.promises.specs.Aligned.{ShiftedPrefix}
 use Rattle.promises.proofs.shifting.States.{Behind, states-same, records-same, shifted-behind, padding-before}
 use Rattle.promises.proofs.shifting.Back.{Unscored, back-none, back-behind}
-
--- its target counts where it has a review
-pub weight-read : (align : Align) (f n : ℕ) (w : Float) → f < n → targetWeight align f n w ≡ w
-unfolding targetWeight targetRead isEnd
-weight-read Start f n w l = refl
-weight-read End f n w l = rw (lt-ltb f n l)
-
-weight-unread : (align : Align) (f n : ℕ) (w : Float) → align ≡ End → f ≡ n → targetWeight align f n w ≡ zero32
-unfolding targetWeight targetRead isEnd
-weight-unread align f n w e z = rw (e, le-ltb f n (le-of-eq (sym z)))
 
 -- no step of a prefix is scored
 abbrev walk : (p : RuntimeParams) (h : History) (n : ℕ) (g : StateGrad) (gw : List Float) → List Float
@@ -57,8 +47,8 @@ module _ (x y : Prefixes) (column : ℕ) (s : ShiftedPrefix x y column) where
 
   pub weights-same : targetWeightAt x column ≡ targetWeightAt y column
   weights-same =
-      weight-read (x .table .align) (hx .first) n _ (s .some) ∙ s .target .2 ∙
-      sym (weight-read (y .table .align) (hy .first) m _ (omega (arith, behind .start, s .some, s .table .shorter)))
+      target-kept (x .table .align) (hx .first) n _ (s .some) ∙ s .target .2 ∙
+      sym (target-kept (y .table .align) (hy .first) m _ (omega (arith, behind .start, s .some, s .table .shorter)))
 
   module _ (p : RuntimeParams) where
     state-same : stateAt p hx n ≡ stateAt p hy m
@@ -95,10 +85,13 @@ none : eq zero32 zero32 ≡ true
 unfolding eq ofBits
 none = refl
 
+unread : (align : Align) (f n : ℕ) (w : Float) → align ≡ End → f ≡ n → targetWeight align f n w ≡ zero32
+unread align f n w e z = rw (e, z) (target-weightless n w)
+
 module _ (p : RuntimeParams) (x : Prefixes) (column : ℕ) (e : x .table .align ≡ End)
     (all : firstAt (x .table) column ≡ lengthAt (x .table) column) where
   weight-none : targetWeightAt x column ≡ zero32
-  weight-none = weight-unread (x .table .align) (firstAt (x .table) column) (lengthAt (x .table) column) _ e all
+  weight-none = unread (x .table .align) (firstAt (x .table) column) (lengthAt (x .table) column) _ e all
 
   pub padding-loss : prefixLoss p x column ≡ zero64
   unfolding prefixLoss targetLoss

@@ -13,13 +13,14 @@ use Rattle.checks.specs.Refusals.{prefixGradRefusal}
 use Rattle.checks.specs.declared.align.Align.{Align}
 use Rattle.checks.specs.declared.align.Align.the-variants.{Start, End}
 use Rattle.checks.specs.declared.fault.Fault.{Fault}
+use Rattle.checks.proofs.align.Counted.{target-kept}
 use Rattle.checks.proofs.Orders.{grad-accepted}
 use Rattle.forward.proofs.Agreement.{by-cases}
 use Rattle.analytic_v6.specs.Prefixes.{prefixLoss, prefixSlots}
 use Rattle.laws.proofs.Agreement.Faults.{faults-same}
 use Rattle.promises.specs.Aligned.{ShiftedPrefix, Same, prefixesAs, callWith, Reviewed}
 use Rattle.promises.specs.LossCalls.{Call, prefixes}
-use Rattle.promises.proofs.shifting.Prefix.{weight-read, prefix-loss, prefix-slots}
+use Rattle.promises.proofs.shifting.Prefix.{prefix-loss, prefix-slots}
 use Rattle.promises.proofs.shifting.Faults.{each-none}
 use Rattle.promises.proofs.shifting.Calls.{outcome}
 use Rattle.promises.proofs.shifting.Whole.{prefix-entries}
@@ -46,7 +47,7 @@ module _ (x : Prefixes) (reviewed : Reviewed (x .table)) where
     column-fault align =
         rw (from-0 (x .table) column reviews align)
         (by-cases (eqb n 0) _ _ _ _ (λ e. refl)
-        (λ e. let z = eqb-false n 0 e in rw (weight-read align 0 n (x .weights ! column) (omega arith))))
+        (λ e. let z = eqb-false n 0 e in rw (target-kept align 0 n (x .weights ! column) (omega arith))))
 
     -- an empty column is refused
     some : prefixColumn (prefixesAs Start x) column .refusal ≡ 0 → n ≡ 0 → ⊥

@@ -1,21 +1,22 @@
 -- A history behind padding: no state before its first review, and from there what it has without that padding. Assumes nothing.
 use Prim.Native.Nat.{ℕ, zero, suc, _+_, _≤_, _<_}
 use mathlib.Core.Bool.{false}
-use mathlib.Core.Path.{_≡_, refl, ap, _∙_}
-use native.Mathlib.Nat.{add-sub-cancel, le-of-lt, le-refl, sub-zero, suc-add, zero-add}
+use mathlib.Core.Path.{_≡_, ap, _∙_}
+use native.Mathlib.Nat.{add-sub-cancel, le-of-lt, sub-zero, suc-add, zero-add}
 use native.Mathlib.Omega.{arith}
-use borrow.Author.Tests.{le-ltb, lt-ltb, not-false}
+use borrow.Author.Tests.{le-ltb, not-false}
 use lib.Ieee.{Float, eq}
 use Rattle.domain.specs.Limits.{zero32}
 use Rattle.checks.specs.Align.{isEnd, firstOf}
 use Rattle.checks.specs.Batch.{Table, History, lengthAt, view, firstAt, history}
 use Rattle.checks.specs.Reads.{nonZero}
 use Rattle.checks.proofs.align.First.{before-first}
-use Rattle.forward.specs.Step.{noState, paddingDef, stepDef}
+use Rattle.forward.specs.Step.{paddingDef, stepDef}
 use Rattle.forward.specs.declared.parameters.RuntimeParams.{RuntimeParams}
 use Rattle.forward.specs.declared.state.Branch.the-variants.{Padding}
 use Rattle.forward.specs.declared.state.State.{State}
 use Rattle.forward.specs.declared.state.Stepped.{Stepped}
+use Rattle.columns.proofs.Before.{none-before}
 use Rattle.columns.specs.ForwardPass.{stepAt, stateAt, recordAt}
 use Rattle.promises.specs.Aligned.{Shifted}
 
@@ -26,11 +27,6 @@ unfolding nonZero stepDef
 padding-step p q day rating row e = rw (not-false (eq rating zero32) e)
 
 module _ (p : RuntimeParams) (h : History) where
-  state-before : (row : ℕ) → row ≤ h .first → stateAt p h row ≡ noState
-  unfolding stateAt
-  state-before zero l = refl
-  state-before (suc row) l = rw (lt-ltb row (h .first) l)
-
   padding-record : (row : ℕ) → nonZero (h .rating row) ≡ false → recordAt p h row .branch ≡ Padding
   unfolding recordAt stepAt paddingDef
   padding-record row e = ap (λ (s : Stepped). s .step .branch) (padding-step p _ _ (h .rating row) _ e)
@@ -51,7 +47,7 @@ module _ (p : RuntimeParams) (h g : History) (m : ℕ) (b : Behind h g m) where
 
   pub states-same : (i : ℕ) → i ≤ m → stateAt p h (i + f) ≡ stateAt p g i
   unfolding stateAt
-  states-same zero l = rw (zero-add f) (state-before p h f (le-refl f))
+  states-same zero l = rw (zero-add f) (none-before p h f (omega arith))
   states-same (suc i) l =
       rw (
         suc-add i f,

@@ -1,6 +1,6 @@
 -- Weights of a review that count the same: they are, or both are zero, of either sign. Assumes nothing.
 use Prim.Native.Nat.{ℕ}
-use mathlib.Core.Bool.{Bool, true, false, _&&_, cond}
+use mathlib.Core.Bool.{Bool, true, false, cond}
 use mathlib.Core.List.{List}
 use mathlib.Core.Logic.{_⊎_, inl, inr}
 use mathlib.Core.Path.{_≡_, refl, sym, _∙_}
@@ -8,7 +8,9 @@ use borrow.Author.Tests.{not-false}
 use lib.Dec.{eqb}
 use lib.Ieee.{Float, eq, ofBits}
 use Rattle.domain.specs.Limits.{zero32}
-use Rattle.checks.specs.Align.{isEnd, counts, weighed}
+use Rattle.domain.proofs.weights.All.{and-false}
+use Rattle.checks.specs.Align.{weighed}
+use Rattle.checks.proofs.align.Counted.{review-kept, start-kept, padding-weightless}
 use Rattle.checks.specs.Reads.{later, nonZero, cardLabel}
 use Rattle.checks.specs.declared.align.Align.{Align}
 use Rattle.checks.specs.declared.align.Align.the-variants.{Start, End}
@@ -29,12 +31,11 @@ module _ (a b : Align) (rx ry wx wy : Float) where
   pub weighed-alike :
       a ≡ End → b ≡ Start → ry ≡ rx → (nonZero ry ≡ true → wy ≡ wx) → (nonZero ry ≡ false → nonZero wy ≡ false) →
       Alike (weighed a rx wx) (weighed b ry wy)
-  unfolding weighed counts isEnd
-  weighed-alike e d same reviews padding = rw (e, d, ← same) (go (nonZero ry) refl)
+  weighed-alike e d same reviews padding = rw (e, d, ← same, start-kept ry wy) (go (nonZero ry) refl)
     where
-      go : (t : Bool) → t ≡ nonZero ry → Alike (cond t wx zero32) wy
-      go true h = inl (sym (reviews (sym h)))
-      go false h = inr (none, padding (sym h))
+      go : (t : Bool) → t ≡ nonZero ry → Alike (weighed End ry wx) wy
+      go true h = inl (review-kept End ry wx (sym h) ∙ sym (reviews (sym h)))
+      go false h = inr (rw (padding-weightless ry wx (sym h)) none, padding (sym h))
 
 -- ---- a row's score
 pub either : {A : Type 0} (b : Bool) (a : A) → cond b a a ≡ a
@@ -50,10 +51,6 @@ score-alike row r label a b (inl e) = rw e
 score-alike row r label a b (inr e) = no-score row r label a (e .0) ∙ sym (no-score row r label b (e .1))
 
 -- ---- a card's last row
-and-false : (b : Bool) → b && false ≡ false
-and-false true = refl
-and-false false = refl
-
 pub no-label : (row : ℕ) (w : Float) → nonZero w ≡ false → cardLabel row w ≡ false
 unfolding cardLabel
 no-label row w e = rw e (and-false (later row))
