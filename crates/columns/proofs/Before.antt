@@ -6,10 +6,10 @@ use borrow.Author.Tests.{lt-ltb}
 use Rattle.checks.specs.Batch.{History}
 use Rattle.forward.specs.Step.{noState}
 use Rattle.forward.specs.declared.parameters.RuntimeParams.{RuntimeParams}
-use Rattle.columns.specs.ForwardPass.{stateAt}
+use Rattle.columns.specs.ForwardPass.{carriedDef, stateAt}
 
 -- up to it the state is (0, 0), whatever padding stands in front
 pub none-before : (p : RuntimeParams) (h : History) (row : ℕ) → row - h .first ≡ 0 → stateAt p h row ≡ noState
-unfolding stateAt
+unfolding stateAt carriedDef
 none-before p h zero e = refl
 none-before p h (suc row) e = rw (lt-ltb row (h .first) (omega (arith, e)))

@@ -1,22 +1,20 @@
 -- One more row of a column. Assumes nothing.
 use Prim.Native.Nat.{ℕ, _+_, _-_}
-use mathlib.Core.Bool.{cond}
 use mathlib.Core.List.{List}
 use mathlib.Core.Path.{_≡_, ap, _∙_}
 use native.Mathlib.Numerals.{add-one}
-use lib.Dec.{ltb}
 use lib.Ieee.{Float}
 use lib.ListN.{set}
 use Rattle.domain.specs.Doubles.{_+ᵈ_}
 use Rattle.forward.specs.declared.parameters.RuntimeParams.{RuntimeParams}
 use Rattle.forward.specs.declared.state.State.{State}
 use Rattle.checks.specs.Batch.{History}
-use Rattle.forward.specs.Step.{noState, stepDef}
+use Rattle.forward.specs.Step.{stepDef}
 use Rattle.forward.specs.declared.state.StepRecord.{StepRecord}
 use Rattle.forward.specs.declared.state.Stepped.{Stepped}
 use Rattle.columns.specs.Records.{storeDef}
 use Rattle.columns.specs.declared.scores.Score.{Score}
-use Rattle.columns.specs.ForwardPass.{rowScore, stepAt, stateAt, recordAt, storedDef, scoreAt, lossAt, gradsDef}
+use Rattle.columns.specs.ForwardPass.{carriedDef, rowScore, stepAt, stateAt, recordAt, storedDef, scoreAt, lossAt, gradsDef}
 
 module _ (p : RuntimeParams) (hist : History) where
   here : (k : ℕ) (q : State) (n : Stepped) → q ≡ stateAt p hist k →
@@ -27,9 +25,9 @@ module _ (p : RuntimeParams) (hist : History) where
 
   pub next-state : (k : ℕ) (q : State) (n : Stepped) (after : State) → q ≡ stateAt p hist k →
       n ≡ stepDef p q (hist .day k) (hist .rating k) (k - hist .first) →
-      after ≡ cond (ltb k (hist .first)) noState (n .state) → after ≡ stateAt p hist (k + 1)
+      after ≡ carriedDef k (hist .first) (n .state) → after ≡ stateAt p hist (k + 1)
   unfolding stateAt
-  next-state k q n after e h a = rw (add-one k) (a ∙ ap (λ (x : Stepped). cond (ltb k (hist .first)) noState (x .state)) (here k q n e h))
+  next-state k q n after e h a = rw (add-one k) (a ∙ ap (λ (x : Stepped). carriedDef k (hist .first) (x .state)) (here k q n e h))
 
   pub next-record : (k : ℕ) (q : State) (n : Stepped) → q ≡ stateAt p hist k →
       n ≡ stepDef p q (hist .day k) (hist .rating k) (k - hist .first) →

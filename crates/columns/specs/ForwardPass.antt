@@ -21,15 +21,19 @@ use Rattle.columns.specs.declared.forward_pass.Run.{Run}
 unfoldable pub rowScore : (row : ℕ) (r label weight : Float) → Score
 rowScore row r label weight = cond (eqb row 0) noScore (scoreDef r label weight)
 
+-- the state after a row: up to the first review (0, 0), which a padding in front does not clamp
+unfoldable pub carriedDef : (row first : ℕ) (next : State) → State
+carriedDef row first next = cond (ltb row first) noState next
+
 module _ (p : RuntimeParams) (h : History) where
   -- step_forward(p, state, t_hist[idx], r_hist[idx], t); rows are numbered from the first review, which is row 0 by document 01
   unfoldable pub stepAt : (q : State) (row : ℕ) → Stepped
   stepAt q row = stepDef p q (h .day row) (h .rating row) (row - h .first)
 
-  -- the state after so many rows; up to the first review that is (0, 0), which a padding in front does not clamp
+  -- the state after so many rows
   unfoldable pub stateAt : (rows : ℕ) → State
   stateAt zero = noState
-  stateAt (suc row) = cond (ltb row (h .first)) noState (stepAt (stateAt row) row .state)
+  stateAt (suc row) = carriedDef row (h .first) (stepAt (stateAt row) row .state)
 
   unfoldable pub recordAt : (row : ℕ) → StepRecord
   recordAt row = stepAt (stateAt row) row .step

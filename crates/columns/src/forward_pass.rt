@@ -2,11 +2,8 @@
 // its row. A card's rows are scored on the way, each by the state before its review. `first` is the row of the first review,
 // from which rows are numbered; padding in front of it leaves the state (0, 0).
 ghost use mathlib.Core.Path.{_≡_};
-ghost use mathlib.Core.Bool.{cond};
-ghost use lib.Dec.{ltb};
-ghost use Rattle.forward.specs.Step.{noState};
 ghost use Rattle.checks.specs.Batch.{view, historyOf, weightsOf};
-ghost use Rattle.columns.specs.ForwardPass.{rowScore, stateAt, storedDef, runAt, gradsDef};
+ghost use Rattle.columns.specs.ForwardPass.{carriedDef, rowScore, stateAt, storedDef, runAt, gradsDef};
 use crate::records::store_step;
 use crate::scores::Score;
 use crate::scores::bce_loss_and_grad_r;
@@ -28,7 +25,7 @@ pub struct Run {
 
 // The state after a row: (0, 0) up to the first review.
 fn carried(row: u32, first: u32, next: State) -> State
-    ensures { λ r. ⌜ r ≡ cond (ltb row first) noState next ⌝ }
+    ensures { λ r. ⌜ r ≡ carriedDef row first next ⌝ }
 {
     if row < first {
         return State { s: 0.0, d: 0.0 };

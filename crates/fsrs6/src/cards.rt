@@ -129,7 +129,7 @@ pub extern "C" fn fsrs_card_loss_and_grad_in(
         CardsLeave (now (w .entry)) x (now (gw .entry)) (now (records .entry)) (now («step_grads» .entry)) (now (gw .exit))
         (now (records .exit)) (now («step_grads» .exit))) ⌝ }
 {
-    let graded = card_loss_and_grad_in(
+    let a = card_loss_and_grad_in(
         align_of(end),
         w,
         t_hist,
@@ -143,6 +143,6 @@ pub extern "C" fn fsrs_card_loss_and_grad_in(
         records,
         step_grads,
     );
-    put_f64(loss, graded.refusal, graded.loss);
-    graded.refusal
+    put_f64(loss, a.refusal, a.loss);
+    a.refusal
 }

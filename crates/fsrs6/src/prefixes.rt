@@ -142,7 +142,7 @@ pub extern "C" fn fsrs_batch_loss_and_grad_in(
         (now (loss .entry)) (now (loss .exit)) ×
         BatchLeaves (now (w .entry)) x (now (gw .entry)) (now (records .entry)) (now (gw .exit)) (now (records .exit))) ⌝ }
 {
-    let graded = batch_loss_and_grad_in(
+    let a = batch_loss_and_grad_in(
         align_of(end),
         w,
         t_hist,
@@ -156,6 +156,6 @@ pub extern "C" fn fsrs_batch_loss_and_grad_in(
         gw,
         records,
     );
-    put_f64(loss, graded.refusal, graded.loss);
-    graded.refusal
+    put_f64(loss, a.refusal, a.loss);
+    a.refusal
 }

@@ -11,12 +11,7 @@ use Rattle.checks.specs.Reads.{nonZero}
 use Rattle.checks.specs.declared.align.Align.{Align}
 use Rattle.checks.specs.declared.align.Align.the-variants.{Start, End}
 
--- a review's weight is its cell's, and so is every weight at the start; padding at the end weighs nothing
-pub review-kept : (align : Align) (rating weight : Float) → nonZero rating ≡ true → weighed align rating weight ≡ weight
-unfolding weighed counts isEnd
-review-kept Start rating weight e = refl
-review-kept End rating weight e = rw e
-
+-- at the start every weight is its cell's, at the end a review's is, and padding weighs nothing
 pub start-kept : (rating weight : Float) → weighed Start rating weight ≡ weight
 unfolding weighed counts isEnd
 start-kept rating weight = refl
@@ -24,6 +19,11 @@ start-kept rating weight = refl
 pub padding-weightless : (rating weight : Float) → nonZero rating ≡ false → weighed End rating weight ≡ zero32
 unfolding weighed counts isEnd
 padding-weightless rating weight e = rw e
+
+pub review-kept : (align : Align) (rating weight : Float) → nonZero rating ≡ true → weighed align rating weight ≡ weight
+unfolding weighed counts isEnd
+review-kept Start rating weight e = refl
+review-kept End rating weight e = rw e
 
 -- a target's likewise, behind a review or behind padding alone
 pub target-kept : (align : Align) (first n : ℕ) (weight : Float) → first < n → targetWeight align first n weight ≡ weight

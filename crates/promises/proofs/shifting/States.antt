@@ -17,7 +17,7 @@ use Rattle.forward.specs.declared.state.Branch.the-variants.{Padding}
 use Rattle.forward.specs.declared.state.State.{State}
 use Rattle.forward.specs.declared.state.Stepped.{Stepped}
 use Rattle.columns.proofs.Before.{none-before}
-use Rattle.columns.specs.ForwardPass.{stepAt, stateAt, recordAt}
+use Rattle.columns.specs.ForwardPass.{carriedDef, stepAt, stateAt, recordAt}
 use Rattle.promises.specs.Aligned.{Shifted}
 
 -- ---- the rows in front
@@ -46,7 +46,7 @@ module _ (p : RuntimeParams) (h g : History) (m : ℕ) (b : Behind h g m) where
   step-same q i l = rw (b .days i l, b .ratings i l, b .start, add-sub-cancel i f, sub-zero i)
 
   pub states-same : (i : ℕ) → i ≤ m → stateAt p h (i + f) ≡ stateAt p g i
-  unfolding stateAt
+  unfolding stateAt carriedDef
   states-same zero l = rw (zero-add f) (none-before p h f (omega arith))
   states-same (suc i) l =
       rw (
