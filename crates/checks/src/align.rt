@@ -65,7 +65,10 @@ pub fn row_from(row: u32, first: u32) -> u32
 fn is_counted(align: Align, rating: f32) -> bool
     ensures { λ r. ⌜ r ≡ counts align rating ⌝ }
 {
-    either(!is_end(align), is_nonzero(rating))
+    if is_end(align) {
+        return is_nonzero(rating);
+    }
+    true
 }
 
 // A review's weight; 0 where it does not count, whatever the cell holds.
