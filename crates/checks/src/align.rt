@@ -62,7 +62,8 @@ pub fn row_from(row: u32, first: u32) -> u32
     row - first
 }
 
-fn is_counted(align: Align, rating: f32) -> bool
+// Whether a row of this rating counts as a review; at the end padding does not.
+pub fn is_counted(align: Align, rating: f32) -> bool
     ensures { λ r. ⌜ r ≡ counts align rating ⌝ }
 {
     if is_end(align) {

@@ -2,14 +2,15 @@
 // its row. A card's rows are scored on the way, each by the state before its review. `first` is the row of the first review,
 // from which rows are numbered; padding in front of it leaves the state (0, 0).
 ghost use mathlib.Core.Path.{_≡_};
+ghost use Rattle.checks.specs.Align.{weighed};
 ghost use Rattle.checks.specs.Batch.{view, historyOf, weightsOf};
 ghost use Rattle.columns.specs.ForwardPass.{carriedDef, rowScore, stateAt, storedDef, runAt, gradsDef};
 use crate::records::store_step;
 use crate::scores::Score;
 use crate::scores::bce_loss_and_grad_r;
 use checks::align::Align;
+use checks::align::is_counted;
 use checks::align::row_from;
-use checks::align::weighed;
 use checks::tables::cell_of;
 use checks::tables::read;
 use checks::tables::write_f64;
@@ -89,11 +90,24 @@ pub fn prefix_forward_recorded(
     q
 }
 
-// The first review has no state before it to score.
-pub(crate) fn row_score(row: u32, r: f32, label: f32, weight: f32) -> Score
-    ensures { λ q. ⌜ q ≡ rowScore row r label weight ⌝ }
+// The first review has no state before it to score, and what does not count has no score.
+pub(crate) fn row_score(
+    align: Align,
+    row: u32,
+    rating: f32,
+    r: f32,
+    label: f32,
+    weight: f32,
+) -> Score
+    ensures { λ q. ⌜ q ≡ rowScore row r label (weighed align rating weight) ⌝ }
 {
     if row == 0 {
+        return Score {
+            loss: 0.0,
+            g_r: 0.0,
+        };
+    }
+    if !is_counted(align, rating) {
         return Score {
             loss: 0.0,
             g_r: 0.0,
@@ -125,12 +139,13 @@ pub fn card_forward(
         let k = cell_of(i, batch, column);
         let day = read(t_hist, k);
         let rating = read(r_hist, k);
-        let label = read(labels, k);
-        let weight = weighed(align, rating, read(weights, k));
         let number = row_from(i, first);
         let next = step_forward(p, q, day, rating, number as usize);
         let step = next.step;
-        let score = row_score(number, step.retrievability, label, weight);
+        let label = read(labels, k);
+        let weight = read(weights, k);
+        let r = step.retrievability;
+        let score = row_score(align, number, rating, r, label, weight);
         loss = loss + score.loss;
         q = carried(i, first, next.state);
         i += 1;
@@ -167,12 +182,13 @@ pub fn card_forward_recorded(
         let k = cell_of(i, batch, column);
         let day = read(t_hist, k);
         let rating = read(r_hist, k);
-        let label = read(labels, k);
-        let weight = weighed(align, rating, read(weights, k));
         let number = row_from(i, first);
         let next = step_forward(p, q, day, rating, number as usize);
         let step = next.step;
-        let score = row_score(number, step.retrievability, label, weight);
+        let label = read(labels, k);
+        let weight = read(weights, k);
+        let r = step.retrievability;
+        let score = row_score(align, number, rating, r, label, weight);
         let g_r = score.g_r;
         store_step(records, i, step);
         write_f64(step_grads, i as usize, g_r);

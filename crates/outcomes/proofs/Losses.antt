@@ -5,6 +5,7 @@ use Rattle.soft.proofs.flags.either
 use Rattle.checks.proofs.align.align_of
 use Rattle.checks.proofs.align.first_review
 use Rattle.checks.proofs.align.row_from
+use Rattle.checks.proofs.align.is_counted
 use Rattle.checks.proofs.align.weighed
 use Rattle.checks.proofs.align.target_weight
 use Rattle.checks.proofs.reads.is_rating
@@ -56,6 +57,9 @@ one-first-review = one (λ κs a o c. c ⨾ none ⨾ none ⨾ none ⨾ none ⨾ 
 
 pub one-row-from : One row_from.Kinds.ps row_from.Kinds.r row_from.Reads.Post
 one-row-from = one (λ κs a o c. c ⨾ none ⨾ none ⨾ end)
+
+pub one-is-counted : One is_counted.Kinds.ps is_counted.Kinds.r is_counted.Reads.Post
+one-is-counted = one (λ κs a o c. c ⨾ none ⨾ none ⨾ end)
 
 pub one-weighed : One weighed.Kinds.ps weighed.Kinds.r weighed.Reads.Post
 one-weighed = one (λ κs a o c. c ⨾ none ⨾ none ⨾ none ⨾ end)

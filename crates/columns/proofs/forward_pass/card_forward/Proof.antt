@@ -29,15 +29,6 @@ read-requires c κs = search needs
 read-requires-2 : tie.Need-read-requires-2 Inv-loop μ-loop
 read-requires-2 c κs = search needs
 
-read-requires-3 : tie.Need-read-requires-3 Inv-loop μ-loop
-read-requires-3 c κs = search needs
-
-read-requires-4 : tie.Need-read-requires-4 Inv-loop μ-loop
-read-requires-4 c κs = search needs
-
-weighed-requires : tie.Need-weighed-requires Inv-loop μ-loop
-weighed-requires c κs = search needs
-
 row-from-requires : tie.Need-row-from-requires Inv-loop μ-loop
 row-from-requires c κs = search needs
 
@@ -47,6 +38,12 @@ cast-step-forward c = search needs
 step-forward-requires : tie.Need-step-forward-requires Inv-loop μ-loop
 step-forward-requires c κs = search needs
 
+read-requires-3 : tie.Need-read-requires-3 Inv-loop μ-loop
+read-requires-3 c κs = search needs
+
+read-requires-4 : tie.Need-read-requires-4 Inv-loop μ-loop
+read-requires-4 c κs = search needs
+
 row-score-requires : tie.Need-row-score-requires Inv-loop μ-loop
 row-score-requires c κs = search needs
 
@@ -55,7 +52,7 @@ carried-requires c κs = search needs
 
 add-i : tie.Need-add-i Inv-loop μ-loop
 add-i c =
-    let at-loop-test = c .before .before .before .before .before .before .before .before .before .before .before .before in
+    let at-loop-test = c .before .before .before .before .before .before .before .before .before .before .before in
     let at-loop = at-loop-test .before in
     record { fits = omega (arith, at-loop-test .loop-test .taken, at-loop .loop .inv .1) }
 
@@ -65,12 +62,11 @@ loop-less c = search needs
 loop-again : tie.Need-loop-again Inv-loop μ-loop
 loop-again c =
     let at-row-score = c .before .before in
-    let at-step-forward = at-row-score .before .before in
-    let at-row-from = at-step-forward .before in
-    let at-weighed = at-row-from .before in
-    let at-read4 = at-weighed .before in
+    let at-read4 = at-row-score .before in
     let at-read3 = at-read4 .before in
-    let at-read2 = at-read3 .before in
+    let at-step-forward = at-read3 .before .before in
+    let at-row-from = at-step-forward .before in
+    let at-read2 = at-row-from .before in
     let at-read = at-read2 .before in
     let at-cell-of = at-read .before in
     let at-loop = at-cell-of .before .before in
@@ -81,7 +77,7 @@ loop-again c =
       next-state _ _ (l .i) (l .q) r _ (l .inv .2) (rw (at-step-forward .step-forward .ensures, at-row-from .row-from .ensures, at-read2 .read2 .ensures, at-read .read .ensures, at-cell-of .cell-of .ensures)) (c .carried .ensures),
       next-loss _ _ _ _ (l .i) _ _ (l .inv .3)
           (next-score _ _ _ _ (l .i) (r .step) (at-row-score .row-score .result) (next-record _ _ (l .i) (l .q) r (l .inv .2) (rw (at-step-forward .step-forward .ensures, at-row-from .row-from .ensures, at-read2 .read2 .ensures, at-read .read .ensures, at-cell-of .cell-of .ensures)))
-          (rw (at-row-score .row-score .ensures, at-row-from .row-from .ensures, at-weighed .weighed .ensures, at-read4 .read4 .ensures, at-read3 .read3 .ensures, at-read2 .read2 .ensures, at-cell-of .cell-of .ensures))),
+          (rw (at-row-score .row-score .ensures, at-row-from .row-from .ensures, at-read4 .read4 .ensures, at-read3 .read3 .ensures, at-read2 .read2 .ensures, at-cell-of .cell-of .ensures))),
     )
 
 returns : tie.Need-returns Inv-loop μ-loop
@@ -102,12 +98,11 @@ card-forward-spec =
     cell-of-requires
     read-requires
     read-requires-2
-    read-requires-3
-    read-requires-4
-    weighed-requires
     row-from-requires
     cast-step-forward
     step-forward-requires
+    read-requires-3
+    read-requires-4
     row-score-requires
     carried-requires
     add-i
