@@ -1,4 +1,3 @@
 // The card loss: with its gradient, and alone.
 pub mod grad;
-mod last;
 pub mod loss;

@@ -2,6 +2,7 @@
 // reviews count. The rows of a column are numbered from its first review.
 ghost use mathlib.Core.Path.{_≡_};
 ghost use Prim.Native.Nat.{_-_};
+ghost use Rattle.domain.specs.Weights.{_!_};
 ghost use Rattle.checks.specs.Align.{isEnd, alignOf, counts, weighed, firstOf, targetWeight};
 ghost use Rattle.checks.specs.Batch.{view};
 use crate::reads::is_nonzero;
@@ -62,25 +63,24 @@ pub fn row_from(row: u32, first: u32) -> u32
     row - first
 }
 
-// Whether a row of this rating counts as a review; at the end padding does not.
-pub fn is_counted(align: Align, rating: f32) -> bool
-    ensures { λ r. ⌜ r ≡ counts align rating ⌝ }
+// Whether cell k counts as a review; at the end padding does not. At the start its rating is not looked at.
+pub fn counts_at(align: Align, r_hist: &[f32], k: usize) -> bool
+    ensures { λ r. ⌜ r ≡ counts align (now («r_hist» .entry) ! k) ⌝ }
 {
     if is_end(align) {
-        return is_nonzero(rating);
+        return is_nonzero(read(r_hist, k));
     }
     true
 }
 
-// A review's weight; 0 where it does not count, whatever the cell holds.
-pub fn weighed(align: Align, rating: f32, weight: f32) -> f32
-    ensures { λ r. ⌜ r ≡ weighed align rating weight ⌝ }
+// The review weight of cell k; 0 where it does not count, whatever the cell holds.
+pub fn weight_at(align: Align, r_hist: &[f32], weights: &[f32], k: usize) -> f32
+    ensures { λ r. ⌜ r ≡ weighed align (now («r_hist» .entry) ! k) (now (weights .entry) ! k) ⌝ }
 {
-    if is_counted(align, rating) {
-        weight
-    } else {
-        0.0
+    if counts_at(align, r_hist, k) {
+        return read(weights, k);
     }
+    0.0
 }
 
 // The weight of the target behind n rows; 0 where these are all padding.

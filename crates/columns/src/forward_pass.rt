@@ -2,14 +2,15 @@
 // its row. A card's rows are scored on the way, each by the state before its review. `first` is the row of the first review,
 // from which rows are numbered; padding in front of it leaves the state (0, 0).
 ghost use mathlib.Core.Path.{_≡_};
-ghost use Rattle.checks.specs.Align.{weighed};
+ghost use mathlib.Core.Bool.{cond};
+ghost use Rattle.domain.specs.Limits.{zero32};
 ghost use Rattle.checks.specs.Batch.{view, historyOf, weightsOf};
 ghost use Rattle.columns.specs.ForwardPass.{carriedDef, rowScore, stateAt, storedDef, runAt, gradsDef};
 use crate::records::store_step;
 use crate::scores::Score;
 use crate::scores::bce_loss_and_grad_r;
 use checks::align::Align;
-use checks::align::is_counted;
+use checks::align::counts_at;
 use checks::align::row_from;
 use checks::tables::cell_of;
 use checks::tables::read;
@@ -91,15 +92,8 @@ pub fn prefix_forward_recorded(
 }
 
 // The first review has no state before it to score, and what does not count has no score.
-pub(crate) fn row_score(
-    align: Align,
-    row: u32,
-    rating: f32,
-    r: f32,
-    label: f32,
-    weight: f32,
-) -> Score
-    ensures { λ q. ⌜ q ≡ rowScore row r label (weighed align rating weight) ⌝ }
+pub(crate) fn row_score(counts: bool, row: u32, r: f32, label: f32, weight: f32) -> Score
+    ensures { λ q. ⌜ q ≡ rowScore row r label (cond counts weight zero32) ⌝ }
 {
     if row == 0 {
         return Score {
@@ -107,7 +101,7 @@ pub(crate) fn row_score(
             g_r: 0.0,
         };
     }
-    if !is_counted(align, rating) {
+    if !counts {
         return Score {
             loss: 0.0,
             g_r: 0.0,
@@ -142,10 +136,10 @@ pub fn card_forward(
         let number = row_from(i, first);
         let next = step_forward(p, q, day, rating, number as usize);
         let step = next.step;
+        let counts = counts_at(align, r_hist, k);
         let label = read(labels, k);
         let weight = read(weights, k);
-        let r = step.retrievability;
-        let score = row_score(align, number, rating, r, label, weight);
+        let score = row_score(counts, number, step.retrievability, label, weight);
         loss = loss + score.loss;
         q = carried(i, first, next.state);
         i += 1;
@@ -185,10 +179,10 @@ pub fn card_forward_recorded(
         let number = row_from(i, first);
         let next = step_forward(p, q, day, rating, number as usize);
         let step = next.step;
+        let counts = counts_at(align, r_hist, k);
         let label = read(labels, k);
         let weight = read(weights, k);
-        let r = step.retrievability;
-        let score = row_score(align, number, rating, r, label, weight);
+        let score = row_score(counts, number, step.retrievability, label, weight);
         let g_r = score.g_r;
         store_step(records, i, step);
         write_f64(step_grads, i as usize, g_r);

@@ -5,8 +5,8 @@ use Rattle.soft.proofs.flags.either
 use Rattle.checks.proofs.align.align_of
 use Rattle.checks.proofs.align.first_review
 use Rattle.checks.proofs.align.row_from
-use Rattle.checks.proofs.align.is_counted
-use Rattle.checks.proofs.align.weighed
+use Rattle.checks.proofs.align.counts_at
+use Rattle.checks.proofs.align.weight_at
 use Rattle.checks.proofs.align.target_weight
 use Rattle.checks.proofs.reads.is_rating
 use Rattle.checks.proofs.tables.cell_of
@@ -58,11 +58,11 @@ one-first-review = one (λ κs a o c. c ⨾ none ⨾ none ⨾ none ⨾ none ⨾ 
 pub one-row-from : One row_from.Kinds.ps row_from.Kinds.r row_from.Reads.Post
 one-row-from = one (λ κs a o c. c ⨾ none ⨾ none ⨾ end)
 
-pub one-is-counted : One is_counted.Kinds.ps is_counted.Kinds.r is_counted.Reads.Post
-one-is-counted = one (λ κs a o c. c ⨾ none ⨾ none ⨾ end)
+pub one-counts-at : One counts_at.Kinds.ps counts_at.Kinds.r counts_at.Reads.Post
+one-counts-at = one (λ κs a o c. c ⨾ none ⨾ none ⨾ none ⨾ end)
 
-pub one-weighed : One weighed.Kinds.ps weighed.Kinds.r weighed.Reads.Post
-one-weighed = one (λ κs a o c. c ⨾ none ⨾ none ⨾ none ⨾ end)
+pub one-weight-at : One weight_at.Kinds.ps weight_at.Kinds.r weight_at.Reads.Post
+one-weight-at = one (λ κs a o c. c ⨾ none ⨾ none ⨾ none ⨾ none ⨾ end)
 
 pub one-target-weight : One target_weight.Kinds.ps target_weight.Kinds.r target_weight.Reads.Post
 one-target-weight = one (λ κs a o c. c ⨾ none ⨾ none ⨾ none ⨾ none ⨾ end)

@@ -4,10 +4,10 @@ ghost use Rattle.checks.specs.Columns.{total};
 ghost use Rattle.checks.specs.Batch.{cardsIn, cardsOf};
 ghost use Rattle.analytic_v6.specs.Cards.{cardLoss, cardsLoss};
 use crate::answers::Loss;
-use crate::cards::last::last_weight;
 use checks::align::Align;
 use checks::align::first_review;
 use checks::align::row_from;
+use checks::align::weight_at;
 use checks::refusals::card_loss_refusal;
 use checks::tables::cell_of;
 use checks::tables::cut_length;
@@ -56,7 +56,7 @@ fn column_loss(
     let k = cell_of(m, batch, column);
     let day = read(t_hist, k);
     let label = read(labels, k);
-    let weight = last_weight(align, r_hist, weights, k);
+    let weight = weight_at(align, r_hist, weights, k);
     let number = row_from(m, first);
     last_loss(p, number, state.s, day, label, weight, run.loss)
 }

@@ -11,16 +11,6 @@ use Rattle.checks.specs.Reads.{nonZero}
 use Rattle.checks.specs.declared.align.Align.{Align}
 use Rattle.checks.specs.declared.align.Align.the-variants.{Start, End}
 
--- what counts has its cell's weight, and what does not has none
-module _ (align : Align) (rating weight : Float) where
-  pub weighed-counted : counts align rating ≡ true → weighed align rating weight ≡ weight
-  unfolding weighed
-  weighed-counted e = rw e
-
-  pub weighed-none : counts align rating ≡ false → weighed align rating weight ≡ zero32
-  unfolding weighed
-  weighed-none e = rw e
-
 -- at the start every weight is its cell's, at the end a review's is, and padding weighs nothing
 pub start-kept : (rating weight : Float) → weighed Start rating weight ≡ weight
 unfolding weighed counts isEnd

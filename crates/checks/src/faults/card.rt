@@ -7,7 +7,7 @@ use crate::align::Align;
 use crate::align::first_review;
 use crate::align::is_end;
 use crate::align::row_from;
-use crate::align::weighed;
+use crate::align::weight_at;
 use crate::fault::Fault;
 use crate::faults::found::no_fault;
 use crate::reads::card_row;
@@ -38,7 +38,7 @@ fn card_rows(
         let k = cell_of(i, batch, column);
         let day = read(t_hist, k);
         let rating = read(r_hist, k);
-        let weight = weighed(align, rating, read(weights, k));
+        let weight = weight_at(align, r_hist, weights, k);
         let label = read(labels, k);
         let last = is_last(n, i);
         let bad = card_row(end, last, row_from(i, first), day, rating, weight, label);

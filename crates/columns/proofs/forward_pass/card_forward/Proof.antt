@@ -3,6 +3,7 @@ use mathlib.Core.Path.{_≡_, refl}
 use native.Mathlib.Omega.{arith}
 use borrow.Author.Needs.{needs}
 use Rattle.forward.specs.Step.{noState}
+use Rattle.checks.specs.Align.{weighed}
 use Rattle.checks.specs.Batch.{historyOf, view, weightsOf}
 use Rattle.columns.specs.ForwardPass.{stateAt, lossAt, runAt}
 use Rattle.columns.proofs.Turns.{next-state, next-record, next-score, next-loss}
@@ -38,6 +39,9 @@ cast-step-forward c = search needs
 step-forward-requires : tie.Need-step-forward-requires Inv-loop μ-loop
 step-forward-requires c κs = search needs
 
+counts-at-requires : tie.Need-counts-at-requires Inv-loop μ-loop
+counts-at-requires c κs = search needs
+
 read-requires-3 : tie.Need-read-requires-3 Inv-loop μ-loop
 read-requires-3 c κs = search needs
 
@@ -52,7 +56,7 @@ carried-requires c κs = search needs
 
 add-i : tie.Need-add-i Inv-loop μ-loop
 add-i c =
-    let at-loop-test = c .before .before .before .before .before .before .before .before .before .before .before in
+    let at-loop-test = c .before .before .before .before .before .before .before .before .before .before .before .before in
     let at-loop = at-loop-test .before in
     record { fits = omega (arith, at-loop-test .loop-test .taken, at-loop .loop .inv .1) }
 
@@ -60,11 +64,13 @@ loop-less : tie.Need-loop-less Inv-loop μ-loop
 loop-less c = search needs
 
 loop-again : tie.Need-loop-again Inv-loop μ-loop
+unfolding weighed
 loop-again c =
     let at-row-score = c .before .before in
     let at-read4 = at-row-score .before in
     let at-read3 = at-read4 .before in
-    let at-step-forward = at-read3 .before .before in
+    let at-counts-at = at-read3 .before in
+    let at-step-forward = at-counts-at .before .before in
     let at-row-from = at-step-forward .before in
     let at-read2 = at-row-from .before in
     let at-read = at-read2 .before in
@@ -77,7 +83,7 @@ loop-again c =
       next-state _ _ (l .i) (l .q) r _ (l .inv .2) (rw (at-step-forward .step-forward .ensures, at-row-from .row-from .ensures, at-read2 .read2 .ensures, at-read .read .ensures, at-cell-of .cell-of .ensures)) (c .carried .ensures),
       next-loss _ _ _ _ (l .i) _ _ (l .inv .3)
           (next-score _ _ _ _ (l .i) (r .step) (at-row-score .row-score .result) (next-record _ _ (l .i) (l .q) r (l .inv .2) (rw (at-step-forward .step-forward .ensures, at-row-from .row-from .ensures, at-read2 .read2 .ensures, at-read .read .ensures, at-cell-of .cell-of .ensures)))
-          (rw (at-row-score .row-score .ensures, at-row-from .row-from .ensures, at-read4 .read4 .ensures, at-read3 .read3 .ensures, at-read2 .read2 .ensures, at-cell-of .cell-of .ensures))),
+          (rw (at-row-score .row-score .ensures, at-row-from .row-from .ensures, at-counts-at .counts-at .ensures, at-read4 .read4 .ensures, at-read3 .read3 .ensures, at-cell-of .cell-of .ensures))),
     )
 
 returns : tie.Need-returns Inv-loop μ-loop
@@ -101,6 +107,7 @@ card-forward-spec =
     row-from-requires
     cast-step-forward
     step-forward-requires
+    counts-at-requires
     read-requires-3
     read-requires-4
     row-score-requires

@@ -4,6 +4,7 @@ use native.Mathlib.Omega.{arith}
 use borrow.Author.Needs.{needs}
 use lib.ListN.{length}
 use Rattle.forward.specs.Step.{noState}
+use Rattle.checks.specs.Align.{weighed}
 use Rattle.checks.specs.Batch.{historyOf, view, weightsOf}
 use Rattle.columns.specs.ForwardPass.{stateAt, storedDef, lossAt, runAt, gradsDef}
 use Rattle.columns.proofs.Turns.{next-state, next-record, next-stored, next-score, next-loss, next-grads}
@@ -40,6 +41,9 @@ cast-step-forward c = search needs
 step-forward-requires : tie.Need-step-forward-requires Inv-loop μ-loop
 step-forward-requires c κs = search needs
 
+counts-at-requires : tie.Need-counts-at-requires Inv-loop μ-loop
+counts-at-requires c κs = search needs
+
 read-requires-3 : tie.Need-read-requires-3 Inv-loop μ-loop
 read-requires-3 c κs = search needs
 
@@ -54,7 +58,7 @@ store-step-requires c κs = search needs
 
 cast-write-f64 : tie.Need-cast-write-f64 Inv-loop μ-loop
 cast-write-f64 c =
-    let at-loop-test = c .before .before .before .before .before .before .before .before .before .before .before .before .before .before in
+    let at-loop-test = c .before .before .before .before .before .before .before .before .before .before .before .before .before .before .before in
     let at-loop = at-loop-test .before in
     record { fits = omega (arith, at-loop-test .loop-test .taken, at-loop .loop .inv .1) }
 
@@ -66,23 +70,25 @@ carried-requires c κs = search needs
 
 add-i : tie.Need-add-i Inv-loop μ-loop
 add-i c =
-    let at-loop-test = c .before .before .before .before .before .before .before .before .before .before .before .before .before .before .before .before .before .before .before in
+    let at-loop-test = c .before .before .before .before .before .before .before .before .before .before .before .before .before .before .before .before .before .before .before .before in
     let at-loop = at-loop-test .before in
     record { fits = omega (arith, at-loop-test .loop-test .taken, at-loop .loop .inv .1) }
 
 loop-less : tie.Need-loop-less Inv-loop μ-loop
 loop-less c =
-    let at-loop-test = c .before .before .before .before .before .before .before .before .before .before .before .before .before .before .before .before .before .before .before in
+    let at-loop-test = c .before .before .before .before .before .before .before .before .before .before .before .before .before .before .before .before .before .before .before .before in
     omega (arith, at-loop-test .loop-test .taken)
 
 loop-again : tie.Need-loop-again Inv-loop μ-loop
+unfolding weighed
 loop-again c =
     let at-write-f64 = c .before .before .before .before in
     let at-store-step = at-write-f64 .before .before .before .before in
     let at-row-score = at-store-step .before .before in
     let at-read4 = at-row-score .before in
     let at-read3 = at-read4 .before in
-    let at-step-forward = at-read3 .before .before in
+    let at-counts-at = at-read3 .before in
+    let at-step-forward = at-counts-at .before .before in
     let at-row-from = at-step-forward .before in
     let at-read2 = at-row-from .before in
     let at-read = at-read2 .before in
@@ -95,7 +101,7 @@ loop-again c =
     let labels = view (a .labels .now) (a .batch) (a .column) in
     let weights = weightsOf (a .align) (a .«r-hist» .now) (a .weights .now) (a .batch) (a .column) in
     let rec = next-record (a .p) hist (l .i) (l .q) r (l .inv .4) (rw (at-step-forward .step-forward .ensures, at-row-from .row-from .ensures, at-read2 .read2 .ensures, at-read .read .ensures, at-cell-of .cell-of .ensures)) in
-    let score = next-score (a .p) hist labels weights (l .i) (r .step) (at-row-score .row-score .result) rec (rw (at-row-score .row-score .ensures, at-row-from .row-from .ensures, at-read4 .read4 .ensures, at-read3 .read3 .ensures, at-read2 .read2 .ensures, at-cell-of .cell-of .ensures)) in (
+    let score = next-score (a .p) hist labels weights (l .i) (r .step) (at-row-score .row-score .result) rec (rw (at-row-score .row-score .ensures, at-row-from .row-from .ensures, at-counts-at .counts-at .ensures, at-read4 .read4 .ensures, at-read3 .read3 .ensures, at-cell-of .cell-of .ensures)) in (
       omega (arith, at-loop-test .loop-test .taken),
       l .inv .1,
       search needs,
@@ -133,6 +139,7 @@ card-forward-recorded-spec =
     row-from-requires
     cast-step-forward
     step-forward-requires
+    counts-at-requires
     read-requires-3
     read-requires-4
     row-score-requires

@@ -31,8 +31,8 @@ read-requires c κs = search needs
 read-requires-2 : tie.Need-read-requires-2
 read-requires-2 c κs = search needs
 
-last-weight-requires : tie.Need-last-weight-requires
-last-weight-requires c κs = search needs
+weight-at-requires : tie.Need-weight-at-requires
+weight-at-requires c κs = search needs
 
 row-from-requires : tie.Need-row-from-requires
 row-from-requires c κs = search needs
@@ -64,8 +64,8 @@ returns-2 c =
     let at-last-end = at-column-backward .before .before .before .before .before .before in
     let at-write-f64 = at-last-end .before .before .before .before in
     let at-row-from = at-write-f64 .before .before in
-    let at-last-weight = at-row-from .before in
-    let at-read2 = at-last-weight .before in
+    let at-weight-at = at-row-from .before in
+    let at-read2 = at-weight-at .before in
     let at-read = at-read2 .before in
     let at-cell-of = at-read .before in
     let at-card-forward-recorded = at-cell-of .before .before .before .before .before .before in
@@ -77,9 +77,9 @@ returns-2 c =
     let h = at-if1 .if1 .left in
     let f = at-first-review .first-review .ensures in
     let r = at-card-forward-recorded .card-forward-recorded .ensures in (
-      (rw (at-last-end .last-end .ensures .0) (loss-of _ _ _ _ e h _ f (at-card-forward-recorded .card-forward-recorded .result) _ _ _ _ (at-row-from .row-from .ensures) (at-card-forward-recorded .card-forward-recorded .ensures .0) (rw (at-read .read .ensures, at-cell-of .cell-of .ensures)) (rw (at-read2 .read2 .ensures, at-cell-of .cell-of .ensures)) (rw (at-last-weight .last-weight .ensures, at-cell-of .cell-of .ensures)))),
+      (rw (at-last-end .last-end .ensures .0) (loss-of _ _ _ _ e h _ f (at-card-forward-recorded .card-forward-recorded .result) _ _ _ _ (at-row-from .row-from .ensures) (at-card-forward-recorded .card-forward-recorded .ensures .0) (rw (at-read .read .ensures, at-cell-of .cell-of .ensures)) (rw (at-read2 .read2 .ensures, at-cell-of .cell-of .ensures)) (rw (at-weight-at .weight-at .ensures, at-cell-of .cell-of .ensures)))),
       (rw (at-column-backward .column-backward .ensures, at-last-end .last-end .ensures .0, at-last-end .last-end .ensures .1, at-write-f64 .write-f64 .ensures, r .1, r .2)
-          (slots-of _ _ _ _ e h _ f (at-card-forward-recorded .card-forward-recorded .result) _ _ _ _ (at-row-from .row-from .ensures) (at-card-forward-recorded .card-forward-recorded .ensures .0) (rw (at-read .read .ensures, at-cell-of .cell-of .ensures)) (rw (at-read2 .read2 .ensures, at-cell-of .cell-of .ensures)) (rw (at-last-weight .last-weight .ensures, at-cell-of .cell-of .ensures)) _ _ _ (at-pre .pre .0) (at-pre .pre .1))),
+          (slots-of _ _ _ _ e h _ f (at-card-forward-recorded .card-forward-recorded .result) _ _ _ _ (at-row-from .row-from .ensures) (at-card-forward-recorded .card-forward-recorded .ensures .0) (rw (at-read .read .ensures, at-cell-of .cell-of .ensures)) (rw (at-read2 .read2 .ensures, at-cell-of .cell-of .ensures)) (rw (at-weight-at .weight-at .ensures, at-cell-of .cell-of .ensures)) _ _ _ (at-pre .pre .0) (at-pre .pre .1))),
       r .1 ∙ records-of _ _ _ _ e h _ f _,
       (rw (at-write-f64 .write-f64 .ensures, r .2) (grads-of _ _ _ _ e h _ f _)),
     )
@@ -96,7 +96,7 @@ column-loss-and-grad-spec =
     cell-of-requires
     read-requires
     read-requires-2
-    last-weight-requires
+    weight-at-requires
     row-from-requires
     cast-write-f64
     write-f64-requires

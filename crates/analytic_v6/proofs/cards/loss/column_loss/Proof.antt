@@ -28,8 +28,8 @@ read-requires c κs = search needs
 read-requires-2 : tie.Need-read-requires-2
 read-requires-2 c κs = search needs
 
-last-weight-requires : tie.Need-last-weight-requires
-last-weight-requires c κs = search needs
+weight-at-requires : tie.Need-weight-at-requires
+weight-at-requires c κs = search needs
 
 row-from-requires : tie.Need-row-from-requires
 row-from-requires c κs = search needs
@@ -40,8 +40,8 @@ last-loss-requires c κs = search needs
 returns-2 : tie.Need-returns-2
 returns-2 c =
     let at-row-from = c .before in
-    let at-last-weight = at-row-from .before in
-    let at-read2 = at-last-weight .before in
+    let at-weight-at = at-row-from .before in
+    let at-read2 = at-weight-at .before in
     let at-read = at-read2 .before in
     let at-cell-of = at-read .before in
     let at-card-forward = at-cell-of .before .before in
@@ -49,7 +49,7 @@ returns-2 c =
     let at-if1 = at-first-review .before in
     let at-cut-length = at-if1 .before in
     c .last-loss .ensures ∙
-    loss-of _ _ _ _ (at-cut-length .cut-length .ensures) (at-if1 .if1 .left) _ (at-first-review .first-review .ensures) (at-card-forward .card-forward .result) _ _ _ _ (at-row-from .row-from .ensures) (at-card-forward .card-forward .ensures) (rw (at-read .read .ensures, at-cell-of .cell-of .ensures)) (rw (at-read2 .read2 .ensures, at-cell-of .cell-of .ensures)) (rw (at-last-weight .last-weight .ensures, at-cell-of .cell-of .ensures))
+    loss-of _ _ _ _ (at-cut-length .cut-length .ensures) (at-if1 .if1 .left) _ (at-first-review .first-review .ensures) (at-card-forward .card-forward .result) _ _ _ _ (at-row-from .row-from .ensures) (at-card-forward .card-forward .ensures) (rw (at-read .read .ensures, at-cell-of .cell-of .ensures)) (rw (at-read2 .read2 .ensures, at-cell-of .cell-of .ensures)) (rw (at-weight-at .weight-at .ensures, at-cell-of .cell-of .ensures))
 
 pub column-loss-spec : {M : Type 1} → statement M
 column-loss-spec =
@@ -63,7 +63,7 @@ column-loss-spec =
     cell-of-requires
     read-requires
     read-requires-2
-    last-weight-requires
+    weight-at-requires
     row-from-requires
     last-loss-requires
     returns-2)
