@@ -2,10 +2,13 @@
 """Tells which weights no column of a batch file reads. Each of them may take any value inside its range: no loss and no gradient
 changes, and its own slot stays 0 (docs/PROMISES.md, 'What is not read does not count').
 
-    examples/free.py FILE                        their numbers, on one line, or `none`
+    examples/free.py [--end] FILE                their numbers, on one line, or `none`
     examples/free.py --moved FILE | ./batchgrad  the file with each of them at the far end of its range: the same answer
 
-What ./batchgrad refuses is refused, with the same number.
+With --end the histories of the file's tables stand at the end of their columns, behind padding (include/fsrs6.h,
+fsrs_batch_loss_in). ./batchgrad reads them from the start: `examples/make_batch.py --end` makes a file for it.
+
+What ./batchgrad, or with --end the library, refuses is refused, with the same number.
 """
 import struct
 from itertools import accumulate
@@ -42,6 +45,7 @@ class Batch(NamedTuple):
     targets: tuple
     labels: tuple
     reviews: tuple
+    is_end: bool = False
 
     def length(self, column):
         return min(self.lengths[column], self.rows)
@@ -49,6 +53,11 @@ class Batch(NamedTuple):
     def steps(self, column):
         """'Steps run on all prefix rows, and on rows 0..n-2 of a card.'"""
         return self.length(column) if self.kind == PREFIX else max(self.length(column) - 1, 0)
+
+    def first(self, column):
+        """The row of the first review: row 0 or, at the end, the first whose rating is not 0, the length where there is none."""
+        rows = range(self.length(column) if self.is_end else 0)
+        return next((row for row in rows if self.ratings[row * self.columns + column] != 0), len(rows))
 
 
 def sections(file):
@@ -84,22 +93,22 @@ def score(weight, label):
 
 def prefix_cells(x, column, row, day, rating):
     """What is read of a row, in the order in which it is tested: a refusal's number, and whether the cell is good. The row after
-    the last is the target."""
-    if row == x.length(column):
+    the last is the target, which goes unread at the end where all is padding."""
+    if row < x.length(column):
+        yield 6, rating in (0, 1, 2, 3, 4)
+        yield 7, row <= x.first(column) or rating == 0 or is_day(day)
+    elif not x.is_end or x.first(column) < row:
         yield from score(x.reviews[column], x.labels[column])
         yield 7, x.reviews[column] == 0 or is_day(x.targets[column])
-    else:
-        yield 6, rating in (0, 1, 2, 3, 4)
-        yield 7, row == 0 or rating == 0 or is_day(day)
 
 
 def card_cells(x, column, row, day, rating):
-    """The same of a card, whose last rating is never read."""
+    """The same of a card, whose last rating is read at the end alone; there nothing else of padding is."""
     weight, label = (table[row * x.columns + column] for table in (x.reviews, x.labels))
     is_last = row == x.length(column) - 1
-    yield 6, is_last or rating in (0, 1, 2, 3, 4)
-    yield 7, row == 0 or (weight if is_last else rating) == 0 or is_day(day)
-    if row > 0:
+    yield 6, is_last and not x.is_end or rating in (0, 1, 2, 3, 4)
+    if row > x.first(column) and not (x.is_end and rating == 0):
+        yield 7, (weight if is_last else rating) == 0 or is_day(day)
         yield from score(weight, label)
 
 
@@ -109,9 +118,9 @@ def cell(x, row, column):
     return (x.days[place], x.ratings[place]) if row < x.rows else (0, 0)
 
 
-def checked(file):
+def checked(file, is_end=False):
     """The call of a file, which is tested as document 01 says, in its order: 11, 2, 3, then column by column."""
-    x = sections(file)
+    x = sections(file)._replace(is_end=is_end)
     for place, (low, high) in BOX.items():
         if not single(low) <= x.weights[place] <= single(high):
             raise Refused(2, "weight %d: " % place)
@@ -142,18 +151,18 @@ def weights_read(row, day, rating):
     return own | {4, 5, 6, 7, 20}
 
 
-def free(file):
-    """The weights that no step reads, but for 20, which every call reads."""
-    x = checked(file)
+def free(file, is_end=False):
+    """The weights that no step reads, but for 20, which every call reads. Rows count from the first review."""
+    x = checked(file, is_end)
     steps = ((row, column) for column in range(x.columns) for row in range(x.steps(column)))
-    read = {20}.union(*(weights_read(row, *cell(x, row, column)) for row, column in steps))
+    read = {20}.union(*(weights_read(row - x.first(column), *cell(x, row, column)) for row, column in steps))
     return [k for k in range(21) if k not in read]
 
 
-def moved(file):
+def moved(file, is_end=False):
     """The file with each free weight at the end of its range that is farther from where it stands."""
     other = bytearray(file)
-    for k in free(file):
+    for k in free(file, is_end):
         place = WEIGHTS + 4 * k
         value, = struct.unpack_from("<f", file, place)
         struct.pack_into("<f", other, place, max(map(single, BOX[k]), key=lambda end: abs(end - value)))
@@ -161,14 +170,14 @@ def moved(file):
 
 
 def main(path, **options):
-    file = read(path, BYTES)
-    if options:
-        write(moved(file))
+    file, is_end = read(path, BYTES), "end" in options
+    if "moved" in options:
+        write(moved(file, is_end))
         return
-    line = " ".join(map(str, free(file))) or "none"
+    line = " ".join(map(str, free(file, is_end))) or "none"
     say("weights that no column of %s reads:" % path)
     write(line.encode() + b"\n")
 
 
 if __name__ == "__main__":
-    run(main, __doc__, (1,), "--moved")
+    run(main, __doc__, (1,), "--end", "--moved")

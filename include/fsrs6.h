@@ -19,6 +19,7 @@
 #ifndef FSRS6_H
 #define FSRS6_H
 
+#include <stdbool.h>
 #include <stddef.h>
 #include <stdint.h>
 
@@ -198,9 +199,9 @@ uint32_t fsrs_training_step_backward(const float *w, size_t w_len, float stabili
                                      size_t gw_len, double *grad_s, double *grad_d);
 
 /* ---- the losses (analytic_v6.rs) of a batch of seq_len rows (0 to 2048) and batch columns (0 to 512). A column is a
- * history that begins at row 0. t_hist has the days and r_hist the ratings; such a table is time-major: the cell of a row
- * and a column is row * batch + column. seq_lens has the length of each column; one above the rows is cut to them. A slice
- * may be longer than it need be.
+ * history that begins at row 0; for one behind padding there is fsrs_batch_loss_in and its like. t_hist has the days and
+ * r_hist the ratings; such a table is time-major: the cell of a row and a column is row * batch + column. seq_lens has the
+ * length of each column; one above the rows is cut to them. A slice may be longer than it need be.
  *
  * Only what is read is checked. All else may hold any bits, and changes nothing.
  *   Of a prefix are read: each rating in its length; the days of rows 1 onward whose rating is not 0; the weight of the
@@ -242,8 +243,48 @@ uint32_t fsrs_card_loss_and_grad(const float *w, size_t w_len, const float *t_hi
                                  const float *weights, size_t weights_len, double *gw, size_t gw_len, float *records,
                                  size_t records_len, double *step_grads, size_t step_grads_len, double *loss);
 
-/* ---- a batch file, run as one call of its loss with the gradient, which is added to the 21 slots of gw. Refusal 11, then
- * those of the loss. Records and step gradients are its own, with room for every file: it takes about 160 KB of the stack.
+/* ---- the same losses where histories may stand at the end of their columns, behind padding: end says so. If it is false,
+ * these are the four functions above, bit for bit.
+ *
+ * If it is true, a column's first review is its first row whose rating is not 0, and padding, before it and behind it, is
+ * not scored. So a column has the loss and the gradient, bit for bit, that it has at the start: without the padding in front
+ * of it, and in a card with the weight 0 in all other padding. A prefix that is all padding scores nothing, and its loss is
+ * 0; a card's last row that is padding or the first review scores nothing.
+ *
+ * Only what is read is checked:
+ *   Of a prefix are read: each rating in its length; the days of later rows than the first review whose rating is not 0;
+ *   and, unless it is all padding, the weight of the scored review, and its label and day if that weight is not 0.
+ *   Of a card are read: each rating, the last one too; and of later rows than the first review whose rating is not 0 the
+ *   weights, a label if its weight is not 0, and the days, but the last row's only if its weight is not 0.
+ *
+ * Refusals as above. Records and step gradients as above, in the rows where the reviews stand: a row in front of the first
+ * review is a padding step from (0, 0), after which the state is still (0, 0). The step gradients of padding and of the
+ * first review are 0. */
+uint32_t fsrs_batch_loss_in(bool end, const float *w, size_t w_len, const float *t_hist, size_t t_hist_len,
+                            const float *r_hist, size_t r_hist_len, uint32_t seq_len, uint32_t batch,
+                            const uint32_t *seq_lens, size_t seq_lens_len, const float *delta_ts, size_t delta_ts_len,
+                            const float *labels, size_t labels_len, const float *weights, size_t weights_len,
+                            double *loss);
+uint32_t fsrs_batch_loss_and_grad_in(bool end, const float *w, size_t w_len, const float *t_hist, size_t t_hist_len,
+                                     const float *r_hist, size_t r_hist_len, uint32_t seq_len, uint32_t batch,
+                                     const uint32_t *seq_lens, size_t seq_lens_len, const float *delta_ts,
+                                     size_t delta_ts_len, const float *labels, size_t labels_len, const float *weights,
+                                     size_t weights_len, double *gw, size_t gw_len, float *records, size_t records_len,
+                                     double *loss);
+uint32_t fsrs_card_loss_in(bool end, const float *w, size_t w_len, const float *t_hist, size_t t_hist_len,
+                           const float *r_hist, size_t r_hist_len, uint32_t seq_len, uint32_t batch,
+                           const uint32_t *seq_lens, size_t seq_lens_len, const float *labels, size_t labels_len,
+                           const float *weights, size_t weights_len, double *loss);
+uint32_t fsrs_card_loss_and_grad_in(bool end, const float *w, size_t w_len, const float *t_hist, size_t t_hist_len,
+                                    const float *r_hist, size_t r_hist_len, uint32_t seq_len, uint32_t batch,
+                                    const uint32_t *seq_lens, size_t seq_lens_len, const float *labels,
+                                    size_t labels_len, const float *weights, size_t weights_len, double *gw,
+                                    size_t gw_len, float *records, size_t records_len, double *step_grads,
+                                    size_t step_grads_len, double *loss);
+
+/* ---- a batch file, run as one call of its loss with the gradient, which is added to the 21 slots of gw. Its histories
+ * begin at row 0. Refusal 11, then those of the loss. Records and step gradients are its own, with room for every file: it
+ * takes about 160 KB of the stack.
  *
  * A file is little-endian words of four bytes, at most 512 rows and 65536 bytes. Its first ten words are the kind (1
  * prefixes, 2 cards), the rows, the columns, and at which byte each section begins: weights, days, ratings, lengths, target

@@ -1,7 +1,8 @@
 """The scalar core of FSRS-6: kernels, formulas, the training step and the two losses, each proved to be its definition.
 
-These are functions over the shared library of `include/fsrs6.h`, one for each of its functions and under its name; ctypes is all
-that they need. A call answers, or raises the `Refusal` by which it was refused and has then written nothing.
+These are functions over the shared library of `include/fsrs6.h`, one for each of its functions and under its name; a loss has one,
+and its batch tells the mode (`end`). ctypes is all that they need. A call answers, or raises the `Refusal` by which it was refused
+and has then written nothing.
 
 >>> from fsrs6 import State, check_and_fill_parameters, next_interval, next_state
 >>> w = check_and_fill_parameters([])  # the default weights
@@ -29,7 +30,7 @@ import operator
 import os
 import sys
 from array import array
-from ctypes import c_double, c_float, c_size_t, c_uint8, c_uint32
+from ctypes import c_bool, c_double, c_float, c_size_t, c_uint8, c_uint32
 from functools import lru_cache
 from typing import TYPE_CHECKING, Any, List, NamedTuple, Sequence, Union
 
@@ -155,6 +156,9 @@ class Prefixes(NamedTuple):
 
     The tables `days` and `ratings` are by row and then by column: cell `row * columns + column`. Everything else has one entry for
     each column.
+
+    A history begins at row 0. With `end` it stands behind padding: the first row whose rating is not 0 is its first review, of
+    padding only the rating is read, and a history of padding alone is not scored.
     """
 
     rows: int = 0
@@ -165,12 +169,28 @@ class Prefixes(NamedTuple):
     target_days: Singles = ()  # from a history to its scored review
     labels: Singles = ()  # whether the scored review was recalled, from 0 to 1
     weights: Singles = ()  # how much the scored review counts
+    end: bool = False  # whether histories stand at the end of their columns, behind padding
 
 
 class Cards(NamedTuple):
     """A batch of cards: every review of a column after its first is scored.
 
     All tables are by row and then by column: cell `row * columns + column`.
+
+    A column begins at row 0, and padding behind that is scored too, unless its weight is 0. With `end` the first row whose rating
+    is not 0 is its first review, of padding only the rating is read, and no padding is scored.
+
+    >>> w = check_and_fill_parameters([])
+    >>> one = Cards(rows=2, columns=1, days=[0, 4], ratings=[3, 1], lengths=[2], labels=[0, 0], weights=[0, 1])
+    >>> none = float("nan")
+    >>> behind_padding = Cards(
+    ...     rows=4, columns=1, days=[none, none, 0, 4], ratings=[0, 0, 3, 1], lengths=[4], labels=[none, none, none, 0],
+    ...     weights=[none, none, none, 1], end=True)
+    >>> card_loss(w, behind_padding) == card_loss(w, one)
+    True
+    >>> card_loss(w, behind_padding._replace(end=False))
+    Traceback (most recent call last):
+    fsrs6.Refusal: a review weight or a label is out of range
     """
 
     rows: int = 0
@@ -180,6 +200,7 @@ class Cards(NamedTuple):
     lengths: Wholes = ()  # of each column
     labels: Singles = ()  # table: whether a review was recalled, from 0 to 1
     weights: Singles = ()  # table: how much a review counts
+    end: bool = False  # whether columns stand at the end of the tables, behind padding
 
 
 # ---- the library
@@ -192,9 +213,9 @@ _KERNELS = {
 }
 
 # All others: what is given, each as NAME:TYPE, and behind > what is answered. f is a single, d a double, I a whole number of 32
-# bits, n one of the machine's size; [f] a slice of singles, which C takes as a pointer and a length, and &[d] one that is written.
-# An answer may be as many singles as its number says.
-_TABLES = "w:[f] days:[f] ratings:[f] rows:I columns:I lengths:[I] "
+# bits, n one of the machine's size, ? a truth; [f] a slice of singles, which C takes as a pointer and a length, and &[d] one that
+# is written. An answer may be as many singles as its number says. Of the losses these are the functions that take the mode.
+_TABLES = "end:? w:[f] days:[f] ratings:[f] rows:I columns:I lengths:[I] "
 _STEP = "w:[f] stability:f difficulty:f day:f rating:f row:n "
 _CALLS = {
     "check_and_fill_parameters": "parameters:[f] > 21",
@@ -211,13 +232,13 @@ _CALLS = {
     "memory_state_from_sm2": "w:[f] ease_factor:f interval:f sm2_retention:f > f f",
     "training_step": _STEP + "> f f 10",
     "training_step_backward": _STEP + "g_s:d g_d:d g_r:d gw:&[d] > d d",
-    "batch_loss": _TABLES + "target_days:[f] labels:[f] weights:[f] > d",
-    "batch_loss_and_grad": _TABLES + "target_days:[f] labels:[f] weights:[f] gw:&[d] records:&[f] > d",
-    "card_loss": _TABLES + "labels:[f] weights:[f] > d",
-    "card_loss_and_grad": _TABLES + "labels:[f] weights:[f] gw:&[d] records:&[f] step_grads:&[d] > d",
+    "batch_loss_in": _TABLES + "target_days:[f] labels:[f] weights:[f] > d",
+    "batch_loss_and_grad_in": _TABLES + "target_days:[f] labels:[f] weights:[f] gw:&[d] records:&[f] > d",
+    "card_loss_in": _TABLES + "labels:[f] weights:[f] > d",
+    "card_loss_and_grad_in": _TABLES + "labels:[f] weights:[f] gw:&[d] records:&[f] step_grads:&[d] > d",
     "batch_file": "file:[B] gw:&[d] > d",
 }
-_TYPES = {"f": c_float, "d": c_double, "I": c_uint32, "B": c_uint8, "n": c_size_t}
+_TYPES = {"f": c_float, "d": c_double, "I": c_uint32, "B": c_uint8, "n": c_size_t, "?": c_bool}
 # The formats under which a buffer may tell that it has entries of a type.
 _FORMATS = {"f": "f", "d": "d", "I": "IL", "B": "Bbc"}
 _NATIVE = "@=<" if sys.byteorder == "little" else "@=>"
@@ -315,13 +336,13 @@ def _called(name: str, given: tuple) -> tuple[int, tuple]:
 
 
 def _number(what: str, kind: str, x):
-    """A number as C takes it. ctypes would cut a whole number to its size without a word."""
+    """A number as C takes it. ctypes would cut a whole number to its size, and take anything for a truth, without a word."""
     number = _TYPES[kind]
     if kind in "fd":
         return number(x)
-    whole = operator.index(x)
-    if not 0 <= whole < 1 << 8 * ctypes.sizeof(number):
-        raise OverflowError(f"{what}: not a whole number from 0 to {(1 << 8 * ctypes.sizeof(number)) - 1}")
+    whole, most = operator.index(x), 1 if kind == "?" else (1 << 8 * ctypes.sizeof(number)) - 1
+    if not 0 <= whole <= most:
+        raise OverflowError(f"{what}: not a whole number from 0 to {most}")
     return number(whole)
 
 
@@ -742,7 +763,7 @@ def batch_loss(w: Singles, prefixes: Prefixes) -> float:
     Traceback (most recent call last):
     fsrs6.Refusal: a prefix has the length 0
     """
-    return _call("batch_loss", w, *_tables(prefixes, Prefixes), prefixes.target_days, prefixes.labels, prefixes.weights)[0]
+    return _call("batch_loss_in", *_tables(w, prefixes, Prefixes), prefixes.target_days, prefixes.labels, prefixes.weights)[0]
 
 
 def batch_loss_and_grad(w: Singles, prefixes: Prefixes, gw: Lent, records: Lent) -> float:
@@ -763,7 +784,7 @@ def batch_loss_and_grad(w: Singles, prefixes: Prefixes, gw: Lent, records: Lent)
     fsrs6.Refusal: too few records or step gradients for the longest column
     """
     scored = (prefixes.target_days, prefixes.labels, prefixes.weights)
-    return _call("batch_loss_and_grad", w, *_tables(prefixes, Prefixes), *scored, gw, records)[0]
+    return _call("batch_loss_and_grad_in", *_tables(w, prefixes, Prefixes), *scored, gw, records)[0]
 
 
 def card_loss(w: Singles, cards: Cards) -> float:
@@ -779,7 +800,7 @@ def card_loss(w: Singles, cards: Cards) -> float:
     Traceback (most recent call last):
     fsrs6.Refusal: rows or columns are over the limit, or an input slice is too short
     """
-    return _call("card_loss", w, *_tables(cards, Cards), cards.labels, cards.weights)[0]
+    return _call("card_loss_in", *_tables(w, cards, Cards), cards.labels, cards.weights)[0]
 
 
 def card_loss_and_grad(w: Singles, cards: Cards, gw: Lent, records: Lent, step_grads: Lent) -> float:
@@ -797,14 +818,14 @@ def card_loss_and_grad(w: Singles, cards: Cards, gw: Lent, records: Lent, step_g
     Traceback (most recent call last):
     fsrs6.Refusal: too few records or step gradients for the longest column
     """
-    return _call("card_loss_and_grad", w, *_tables(cards, Cards), cards.labels, cards.weights, gw, records, step_grads)[0]
+    return _call("card_loss_and_grad_in", *_tables(w, cards, Cards), cards.labels, cards.weights, gw, records, step_grads)[0]
 
 
-def _tables(batch: Union[Prefixes, Cards], kind: type) -> tuple:
+def _tables(w: Singles, batch: Union[Prefixes, Cards], kind: type) -> tuple:
     """What both losses begin with, in the order of C, which could not tell prefixes of one row from cards of one."""
     if not isinstance(batch, kind):
         raise TypeError(f"{type(batch).__name__} where {kind.__name__} is wanted")
-    return batch.days, batch.ratings, batch.rows, batch.columns, batch.lengths
+    return batch.end, w, batch.days, batch.ratings, batch.rows, batch.columns, batch.lengths
 
 
 def batch_file(file: Wholes, gw: Lent) -> float:

@@ -72,20 +72,39 @@ fn column_loss(
     }
 }
 
-fn keep_column(c: &Loss, column: usize, caches: &[StepCache], g_r_losses: &[f64], lent: &mut [Part; 2]) {
-    let room = lent[0].bits.len();
-    for (row, cache) in caches.iter().enumerate() {
-        for (f, x) in fields(cache, c.days[c.cell(row, column)]).into_iter().enumerate() {
-            lent[0].put(record_cell(room, f, row), x.to_bits() as u64);
-        }
-    }
-    for (row, x) in g_r_losses.iter().enumerate() {
-        lent[1].put(row, x.to_bits());
+fn keep_step(c: &Loss, row: usize, column: usize, cache: &StepCache, records: &mut Part) {
+    let room = records.bits.len();
+    for (f, x) in fields(cache, c.days[c.cell(row, column)]).into_iter().enumerate() {
+        records.put(record_cell(room, f, row), x.to_bits() as u64);
     }
 }
 
-// Column by column, so that the caches and step gradients of each can be kept.
-fn by_columns(c: &Loss, tables: &Tables) -> (f64, Vec<f64>, [Part; 2]) {
+fn keep_column(c: &Loss, column: usize, caches: &[StepCache], g_r_losses: &[f64], lent: &mut [Part; 2]) {
+    let first = c.first(column);
+    for (row, cache) in caches.iter().enumerate() {
+        keep_step(c, first + row, column, cache, &mut lent[0]);
+    }
+    for (row, x) in g_r_losses.iter().enumerate() {
+        lent[1].put(first + row, x.to_bits());
+    }
+}
+
+// In front of the first review each row is padding from (0, 0), unscored; a card's last row is no step.
+fn keep_front(p: &RuntimeParams<'_>, c: &Loss, column: usize, lent: &mut [Part; 2]) {
+    let first = c.first(column);
+    for row in 0..first.min(c.steps(column)) {
+        let rating = c.ratings[c.cell(row, column)];
+        let cache = step_forward(p, State { s: 0.0, d: 0.0 }, 0.0, rating, 0).1;
+        keep_step(c, row, column, &cache, &mut lent[0]);
+    }
+    if c.is_card {
+        (0..first).for_each(|row| lent[1].put(row, 0));
+    }
+}
+
+// Column by column, so that the caches and step gradients of each can be kept, in the rows of `c`. The text runs `moved`,
+// which is `c` at the start.
+fn by_columns(c: &Loss, moved: &Loss, tables: &Tables) -> (f64, Vec<f64>, [Part; 2]) {
     let p = RuntimeParams::new(&c.w);
     let mut slots = c.slots.clone();
     let mut loss = 0.0;
@@ -95,7 +114,10 @@ fn by_columns(c: &Loss, tables: &Tables) -> (f64, Vec<f64>, [Part; 2]) {
     let (mut caches, mut g_r_losses) = (Vec::new(), Vec::new());
     for column in 0..c.columns as usize {
         let gw = if c.with_grad { Some(&mut slots[..]) } else { None };
-        loss += column_loss(&p, c, tables, column, gw, &mut caches, &mut g_r_losses);
+        loss += column_loss(&p, moved, tables, column, gw, &mut caches, &mut g_r_losses);
+        if c.with_grad {
+            keep_front(&p, c, column, &mut lent);
+        }
         keep_column(c, column, &caches, &g_r_losses, &mut lent);
     }
     (loss, slots, lent)
@@ -128,9 +150,10 @@ fn same(a: f64, b: f64) -> bool {
 
 /// What an accepted call gives.
 pub fn loss_outcome(c: &Loss) -> Outcome {
-    let tables = plain_tables(c);
-    let (loss, slots, [records, step_grads]) = by_columns(c, &tables);
-    if let Some((l, gw)) = by_entry(c, &tables) {
+    let moved = if c.is_end { &c.at_start() } else { c };
+    let tables = plain_tables(moved);
+    let (loss, slots, [records, step_grads]) = by_columns(c, moved, &tables);
+    if let Some((l, gw)) = by_entry(moved, &tables) {
         assert!(same(l, loss) && gw.iter().zip(&slots).all(|(&a, &b)| same(a, b)), "the entry and its columns");
     }
     let mut parts = vec![Part::doubles("loss", [loss])];
@@ -236,8 +259,30 @@ fn note_no_score(weight: f32, tally: &mut Tally) {
     tally.branch(&format!("score: none, review weight {sign}"));
 }
 
+// Where a column's padding stands.
+fn note_padding(c: &Loss, column: usize, tally: &mut Tally) {
+    let (first, n) = (c.first(column), c.cut(column));
+    let is_padding = |row: usize| c.ratings[c.cell(row, column)] == 0.0;
+    for (is_so, text) in [
+        (first == 0 && 0 < n, "no padding in front"),
+        (0 < first && first < n, "padding in front"),
+        (0 < n && first == n, "padding alone"),
+        (first + 1 == n, "first review in the last row"),
+        ((first + 1..n.max(1) - 1).any(is_padding), "padding between"),
+        (first < n && is_padding(n - 1), "padding in the last row"),
+    ] {
+        if is_so {
+            tally.branch(&format!("at the end: {}, {text}", if c.is_card { "card" } else { "prefix" }));
+        }
+    }
+}
+
 /// Walks an accepted call's columns again, forward alone, and counts what is met.
 pub fn note_branches(c: &Loss, tally: &mut Tally) {
+    if c.is_end {
+        (0..c.columns as usize).for_each(|column| note_padding(c, column, tally));
+        return note_branches(&c.at_start(), tally);
+    }
     let p = RuntimeParams::new(&c.w);
     for (is_so, text) in [
         (c.rows == 0, "no rows"),
@@ -305,9 +350,10 @@ fn note_end(p: &RuntimeParams<'_>, c: &Loss, column: usize, state: State, tally:
 pub fn day_at_end(c: &Loss, column: usize, wanted: f32) -> f32 {
     let p = RuntimeParams::new(&c.w);
     let mut state = State { s: 0.0, d: 0.0 };
-    for row in 0..c.steps(column) {
+    let first = c.first(column);
+    for row in first..c.steps(column) {
         let i = c.cell(row, column);
-        state = step_forward(&p, state, plain_day(c.days[i]), c.ratings[i], row).0;
+        state = step_forward(&p, state, plain_day(c.days[i]), c.ratings[i], row - first).0;
     }
     let s = clamp(state.s, S_MIN, S_MAX);
     let (mut low, mut high) = (0, rules::DAY_MAX.to_bits());

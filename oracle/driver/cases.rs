@@ -6,6 +6,8 @@ pub const FIELDS: usize = 10;
 /// A loss call. Lent records and step gradients are a count and the pattern of the first; the others count up from it.
 #[derive(Clone)]
 pub struct Loss {
+    /// K5: its histories stand at the end of their columns, behind padding.
+    pub is_end: bool,
     pub is_card: bool,
     pub with_grad: bool,
     pub w: Vec<f32>,
@@ -23,9 +25,9 @@ pub struct Loss {
 }
 
 impl Loss {
-    /// 0 to 3, as in the lines of the vectors.
+    /// 0 to 7, as in the lines of the vectors.
     pub fn entry(&self) -> usize {
-        2 * self.is_card as usize + !self.with_grad as usize
+        4 * self.is_end as usize + 2 * self.is_card as usize + !self.with_grad as usize
     }
 
     /// The length of a column, cut to the rows.
@@ -35,6 +37,36 @@ impl Loss {
 
     pub fn cell(&self, row: usize, column: usize) -> usize {
         row * self.columns as usize + column
+    }
+
+    /// The row of a column's first review: row 0 or, at the end, the first whose rating is not 0; the length if there is
+    /// none.
+    pub fn first(&self, column: usize) -> usize {
+        let n = self.cut(column);
+        let is_review = |&row: &usize| !self.is_end || self.ratings[self.cell(row, column)] != 0.0;
+        (0..n).find(is_review).unwrap_or(n)
+    }
+
+    /// A call at the end as the text can run it, at the start: each column without the padding in front of its first
+    /// review. K5 scores no padding, so a card's has the weight 0, and so has the target of a prefix that is padding alone.
+    pub fn at_start(&self) -> Loss {
+        let mut c = Loss { is_end: false, ..self.clone() };
+        for column in 0..self.columns as usize {
+            let (first, n) = (self.first(column), self.cut(column));
+            c.lengths[column] = (n - first) as u32;
+            for row in first..n {
+                let (from, to) = (self.cell(row, column), self.cell(row - first, column));
+                (c.days[to], c.ratings[to]) = (self.days[from], self.ratings[from]);
+                if self.is_card {
+                    c.labels[to] = self.labels[from];
+                    c.weights[to] = if self.ratings[from] == 0.0 { 0.0 } else { self.weights[from] };
+                }
+            }
+            if !self.is_card && first == n {
+                c.weights[column] = 0.0;
+            }
+        }
+        c
     }
 
     /// How many rows of a column step: a card's last row is only scored.
@@ -135,9 +167,20 @@ pub enum Case {
     File(File),
 }
 
-const LOSSES: [&str; 4] = ["batch_loss_and_grad", "batch_loss", "card_loss_and_grad", "card_loss"];
+const LOSSES: [&str; 8] = [
+    "batch_loss_and_grad", "batch_loss", "card_loss_and_grad", "card_loss", "batch_loss_and_grad_in", "batch_loss_in",
+    "card_loss_and_grad_in", "card_loss_in",
+];
 
 impl Case {
+    /// A loss call's table in the other mode.
+    pub fn in_other_mode(&self) -> Option<Case> {
+        match self {
+            Case::Loss(c) => Some(Case::Loss(Loss { is_end: !c.is_end, ..c.clone() })),
+            _ => None,
+        }
+    }
+
     pub fn name(&self) -> &'static str {
         match self {
             Case::Loss(c) => LOSSES[c.entry()],

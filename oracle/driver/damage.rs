@@ -1,7 +1,7 @@
 // Batch files: well-formed ones of both kinds, made from calls, and damaged ones.
 use crate::cases::{File, Loss, WEIGHTS};
 use crate::files::{bytes_of, layout, BYTES_MAX, ROWS_MAX};
-use crate::generate::{good_loss_of, loss, Sizes};
+use crate::generate::{good_loss_of, loss, Entry, Sizes};
 use crate::random::Random;
 
 const SMALL: Sizes = Sizes { rows: 40, cells: 200, is_large: false };
@@ -27,7 +27,7 @@ const LIMITS: [(bool, usize, usize); 22] = [
 
 fn at_limit(r: &mut Random) -> Loss {
     let (is_card, rows, columns) = r.pick(&LIMITS);
-    let mut c = good_loss_of(r, is_card, true, rows, columns);
+    let mut c = good_loss_of(r, Entry { is_end: false, is_card, with_grad: true }, rows, columns);
     if rows > 64 {
         // long tables, short columns, so that most files take little time
         let long = r.below(8);
@@ -45,7 +45,7 @@ fn some_bytes(r: &mut Random) -> Vec<u8> {
         return bytes_of(&at_limit(r));
     }
     loop {
-        let c = loss(r, SMALL);
+        let c = loss(r, SMALL, false);
         if is_whole(&c) {
             return bytes_of(&c);
         }

@@ -37,6 +37,11 @@ extern "C" {
     fn fsrs_card_loss(w: *const f32, w_len: usize, t_hist: *const f32, t_hist_len: usize, r_hist: *const f32, r_hist_len: usize, seq_len: u32, batch: u32, seq_lens: *const u32, seq_lens_len: usize, labels: *const f32, labels_len: usize, weights: *const f32, weights_len: usize, loss: *mut f64) -> u32;
     fn fsrs_card_loss_and_grad(w: *const f32, w_len: usize, t_hist: *const f32, t_hist_len: usize, r_hist: *const f32, r_hist_len: usize, seq_len: u32, batch: u32, seq_lens: *const u32, seq_lens_len: usize, labels: *const f32, labels_len: usize, weights: *const f32, weights_len: usize, gw: *mut f64, gw_len: usize, records: *mut f32, records_len: usize, step_grads: *mut f64, step_grads_len: usize, loss: *mut f64) -> u32;
 
+    fn fsrs_batch_loss_in(end: bool, w: *const f32, w_len: usize, t_hist: *const f32, t_hist_len: usize, r_hist: *const f32, r_hist_len: usize, seq_len: u32, batch: u32, seq_lens: *const u32, seq_lens_len: usize, delta_ts: *const f32, delta_ts_len: usize, labels: *const f32, labels_len: usize, weights: *const f32, weights_len: usize, loss: *mut f64) -> u32;
+    fn fsrs_batch_loss_and_grad_in(end: bool, w: *const f32, w_len: usize, t_hist: *const f32, t_hist_len: usize, r_hist: *const f32, r_hist_len: usize, seq_len: u32, batch: u32, seq_lens: *const u32, seq_lens_len: usize, delta_ts: *const f32, delta_ts_len: usize, labels: *const f32, labels_len: usize, weights: *const f32, weights_len: usize, gw: *mut f64, gw_len: usize, records: *mut f32, records_len: usize, loss: *mut f64) -> u32;
+    fn fsrs_card_loss_in(end: bool, w: *const f32, w_len: usize, t_hist: *const f32, t_hist_len: usize, r_hist: *const f32, r_hist_len: usize, seq_len: u32, batch: u32, seq_lens: *const u32, seq_lens_len: usize, labels: *const f32, labels_len: usize, weights: *const f32, weights_len: usize, loss: *mut f64) -> u32;
+    fn fsrs_card_loss_and_grad_in(end: bool, w: *const f32, w_len: usize, t_hist: *const f32, t_hist_len: usize, r_hist: *const f32, r_hist_len: usize, seq_len: u32, batch: u32, seq_lens: *const u32, seq_lens_len: usize, labels: *const f32, labels_len: usize, weights: *const f32, weights_len: usize, gw: *mut f64, gw_len: usize, records: *mut f32, records_len: usize, step_grads: *mut f64, step_grads_len: usize, loss: *mut f64) -> u32;
+
     fn fsrs_batch_file(file: *const u8, file_len: usize, gw: *mut f64, gw_len: usize, loss: *mut f64) -> u32;
 }
 
@@ -97,37 +102,48 @@ fn inputs(c: &Loss) -> u64 {
 }
 
 macro_rules! slices {
-    ($f:ident, $c:expr; $($slice:ident)*; $($rest:expr),*) => {
+    ($f:ident($($mode:expr)?), $c:expr; $($slice:ident)*; $($rest:expr),*) => {
         unsafe {
             $f(
-                $c.w.as_ptr(), $c.w.len(), $c.days.as_ptr(), $c.days.len(), $c.ratings.as_ptr(), $c.ratings.len(),
-                $c.rows, $c.columns, $c.lengths.as_ptr(), $c.lengths.len(), $($c.$slice.as_ptr(), $c.$slice.len(),)*
-                $($rest),*
+                $($mode,)? $c.w.as_ptr(), $c.w.len(), $c.days.as_ptr(), $c.days.len(), $c.ratings.as_ptr(),
+                $c.ratings.len(), $c.rows, $c.columns, $c.lengths.as_ptr(), $c.lengths.len(),
+                $($c.$slice.as_ptr(), $c.$slice.len(),)* $($rest),*
             )
         }
     };
 }
 
-fn loss_alone(c: &Loss) -> Outcome {
+// With the mode, or by the function that has none and means the start.
+fn loss_alone(c: &Loss, has_mode: bool) -> Outcome {
     let mut loss = doubles(1);
-    let refusal = if c.is_card {
-        slices!(fsrs_card_loss, c; labels weights; loss.place(0))
-    } else {
-        slices!(fsrs_batch_loss, c; targets labels weights; loss.place(0))
+    let refusal = match (c.is_card, has_mode) {
+        (true, true) => slices!(fsrs_card_loss_in(c.is_end), c; labels weights; loss.place(0)),
+        (true, false) => slices!(fsrs_card_loss(), c; labels weights; loss.place(0)),
+        (false, true) => slices!(fsrs_batch_loss_in(c.is_end), c; targets labels weights; loss.place(0)),
+        (false, false) => slices!(fsrs_batch_loss(), c; targets labels weights; loss.place(0)),
     };
     Outcome { refusal, parts: vec![double_part("loss", loss)] }
 }
 
-fn loss_and_grad(c: &Loss) -> Outcome {
+fn loss_and_grad(c: &Loss, has_mode: bool) -> Outcome {
     let mut loss = doubles(1);
     let (mut gw, n) = (lend_slots(&c.slots), c.slots.len());
     let (mut records, m) = (Lent::new(&c.lent_records(), 0x5a5a_5a5a), c.records.0);
     let (mut steps, k) = (Lent::new(&c.lent_step_grads(), 0x5a5a_5a5a_5a5a_5a5a), c.step_grads.0);
     let (gw_at, records_at, steps_at, loss_at) = (gw.place(0), records.place(0), steps.place(0), loss.place(0));
-    let refusal = if c.is_card {
-        slices!(fsrs_card_loss_and_grad, c; labels weights; gw_at, n, records_at, m, steps_at, k, loss_at)
-    } else {
-        slices!(fsrs_batch_loss_and_grad, c; targets labels weights; gw_at, n, records_at, m, loss_at)
+    let refusal = match (c.is_card, has_mode) {
+        (true, true) => slices!(
+            fsrs_card_loss_and_grad_in(c.is_end), c; labels weights; gw_at, n, records_at, m, steps_at, k, loss_at
+        ),
+        (true, false) => {
+            slices!(fsrs_card_loss_and_grad(), c; labels weights; gw_at, n, records_at, m, steps_at, k, loss_at)
+        }
+        (false, true) => {
+            slices!(fsrs_batch_loss_and_grad_in(c.is_end), c; targets labels weights; gw_at, n, records_at, m, loss_at)
+        }
+        (false, false) => {
+            slices!(fsrs_batch_loss_and_grad(), c; targets labels weights; gw_at, n, records_at, m, loss_at)
+        }
     };
     let mut parts = vec![double_part("loss", loss), double_part("slots", gw), single_part("records", records)];
     if c.is_card {
@@ -136,9 +152,17 @@ fn loss_and_grad(c: &Loss) -> Outcome {
     Outcome { refusal, parts }
 }
 
+fn is_same(a: &Outcome, b: &Outcome) -> bool {
+    let is_same_part = |(x, y): (&Part, &Part)| (0..x.bits.len()).all(|i| x.plain(i) == y.plain(i));
+    a.refusal == b.refusal && a.parts.iter().zip(&b.parts).all(is_same_part)
+}
+
+/// At the start both functions are called.
 pub fn loss(c: &Loss) -> Outcome {
     let before = inputs(c);
-    let outcome = if c.with_grad { loss_and_grad(c) } else { loss_alone(c) };
+    let call = if c.with_grad { loss_and_grad } else { loss_alone };
+    let outcome = call(c, c.is_end);
+    assert!(c.is_end || is_same(&outcome, &call(c, true)), "another answer of the function that takes the mode");
     assert_eq!(inputs(c), before, "a write to an input slice");
     outcome
 }

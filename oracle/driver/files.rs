@@ -102,6 +102,7 @@ pub fn read(c: &File) -> Option<Loss> {
     };
     let rows = header[1];
     Some(Loss {
+        is_end: false,
         is_card: header[0] == 2,
         with_grad: true,
         w: floats(3),

@@ -4,6 +4,14 @@ use crate::cases::{Case, Formula, Kernel, Loss, Reverse, Step, FIELDS, FORMULAS,
 use crate::random::{Random, LEAST};
 use crate::rules::{COLUMNS_MAX, DIFFICULTY, ROWS_MAX, STABILITY};
 
+/// Which loss is called.
+#[derive(Clone, Copy)]
+pub struct Entry {
+    pub is_end: bool,
+    pub is_card: bool,
+    pub with_grad: bool,
+}
+
 /// How large calls may be.
 #[derive(Clone, Copy)]
 pub struct Sizes {
@@ -85,14 +93,66 @@ fn fill_column(r: &mut Random, c: &mut Loss, column: usize) {
     }
 }
 
+// How many of n rows stand in front of the first review.
+fn front(r: &mut Random, n: usize) -> usize {
+    match r.below(8) {
+        0 | 1 => 0,
+        2 => n,
+        3 => n.saturating_sub(1),
+        4 => 1.min(n),
+        _ => r.between(0, n),
+    }
+}
+
+// The same at the end of the table. Where `is_whole`, what goes unread is good too, so that the start may accept it.
+fn fill_column_at_end(r: &mut Random, c: &mut Loss, column: usize, is_whole: bool) {
+    let n = c.cut(column);
+    let front = front(r, n);
+    for row in 0..n {
+        let is_padding = row < front || (row > front && r.one_in(5));
+        let i = c.cell(row, column);
+        c.ratings[i] = if is_padding { r.pick(&[0.0, -0.0]) } else { r.rating() };
+    }
+    let first = c.first(column);
+    for row in 0..n {
+        let i = c.cell(row, column);
+        if !is_whole && (row <= first || c.ratings[i] == 0.0) {
+            continue;
+        }
+        c.days[i] = r.day();
+        if c.is_card {
+            (c.weights[i], c.labels[i]) = (r.review_weight(), r.label());
+            spoil_unscored(r, c, i, row + 1 == n, is_whole);
+        }
+    }
+    if !c.is_card && (is_whole || first < n) {
+        (c.weights[column], c.labels[column], c.targets[column]) = (r.review_weight(), r.label(), r.day());
+        if c.weights[column] == 0.0 && !is_whole {
+            (c.labels[column], c.targets[column]) = (r.junk(), r.junk());
+        }
+    }
+}
+
+// A weight of 0 leaves the label unread, and in the last row the day.
+fn spoil_unscored(r: &mut Random, c: &mut Loss, i: usize, is_last: bool, is_whole: bool) {
+    if is_whole || c.weights[i] != 0.0 {
+        return;
+    }
+    c.labels[i] = r.junk();
+    if is_last {
+        c.days[i] = r.junk();
+    }
+}
+
 // Puts a last day where the retrievability is at an end of the probability's clamp, or one step beside.
 fn meet_the_clamp(r: &mut Random, c: &mut Loss, column: usize) {
     let n = c.cut(column);
-    if n < 1 + c.is_card as usize {
+    if n < c.first(column) + 1 + c.is_card as usize {
         return;
     }
     let i = c.score(n - 1, column);
-    if c.weights[i] == 0.0 {
+    let is_padding = c.is_end && c.is_card && c.ratings[i] == 0.0;
+    if is_padding || c.weights[i] == 0.0 {
         return;
     }
     let end = r.pick(&analytic::PROBABILITY_ENDS);
@@ -121,14 +181,15 @@ fn lend(r: &mut Random, c: &mut Loss) {
 }
 
 /// A call that is accepted.
-pub fn good_loss(r: &mut Random, sizes: Sizes) -> Loss {
+pub fn good_loss(r: &mut Random, sizes: Sizes, is_end: bool) -> Loss {
     let (is_card, with_grad) = (r.one_in(2), r.below(7) > 1);
     let (rows, columns) = shape(r, sizes);
     let columns = if !is_card && rows == 0 { 0 } else { columns };
-    good_loss_of(r, is_card, with_grad, rows, columns)
+    good_loss_of(r, Entry { is_end, is_card, with_grad }, rows, columns)
 }
 
-pub fn good_loss_of(r: &mut Random, is_card: bool, with_grad: bool, rows: usize, columns: usize) -> Loss {
+pub fn good_loss_of(r: &mut Random, entry: Entry, rows: usize, columns: usize) -> Loss {
+    let Entry { is_end, is_card, with_grad } = entry;
     let mut more = |n: usize| n + if r.one_in(4) { r.between(1, 3) } else { 0 };
     let cells = rows * columns;
     let scores = if is_card { cells } else { columns };
@@ -138,6 +199,7 @@ pub fn good_loss_of(r: &mut Random, is_card: bool, with_grad: bool, rows: usize,
     let mut junk = |n: usize| (0..n).map(|_| r.junk()).collect::<Vec<_>>();
     let [days, ratings, targets, labels, weights] = counts.map(|n| junk(n));
     let mut c = Loss {
+        is_end,
         is_card,
         with_grad,
         w: r.weights(),
@@ -153,8 +215,13 @@ pub fn good_loss_of(r: &mut Random, is_card: bool, with_grad: bool, rows: usize,
         records: (0, 0),
         step_grads: (0, 0),
     };
+    let is_whole = is_end && r.one_in(2);
     for column in 0..columns {
-        fill_column(r, &mut c, column);
+        if is_end {
+            fill_column_at_end(r, &mut c, column, is_whole);
+        } else {
+            fill_column(r, &mut c, column);
+        }
         if r.one_in(8) {
             meet_the_clamp(r, &mut c, column);
         }
@@ -269,18 +336,18 @@ impl Random {
 }
 
 // One row or column over the limit, with slices to match.
-fn over_limit(r: &mut Random) -> Loss {
+fn over_limit(r: &mut Random, is_end: bool) -> Loss {
     let (rows, columns) = r.pick(&[(2049, 1), (1, 513), (0, 513), (2049, 0)]);
     let (is_card, with_grad) = (r.one_in(2), r.one_in(2));
-    good_loss_of(r, is_card, with_grad, rows, columns)
+    good_loss_of(r, Entry { is_end, is_card, with_grad }, rows, columns)
 }
 
 /// Any call: most are accepted, others have one fault or several.
-pub fn loss(r: &mut Random, sizes: Sizes) -> Loss {
+pub fn loss(r: &mut Random, sizes: Sizes, is_end: bool) -> Loss {
     if sizes.is_large && r.one_in(500) {
-        return over_limit(r);
+        return over_limit(r, is_end);
     }
-    let mut c = good_loss(r, sizes);
+    let mut c = good_loss(r, sizes, is_end);
     let faults = r.pick(&[0, 0, 0, 0, 0, 0, 0, 1, 1, 1, 1, 2, 3]);
     for _ in 0..faults {
         break_loss(r, &mut c);
@@ -491,6 +558,12 @@ pub fn case(seed: u64, i: u64) -> Case {
         20..=31 => Case::Formula(formula(r)),
         32..=35 => Case::Filling(filling(r)),
         36..=39 => Case::Kernel(kernel(r)),
-        _ => Case::Loss(loss(r, ANY)),
+        _ => Case::Loss(loss(r, ANY, false)),
     }
+}
+
+/// The i-th loss of a seed whose histories stand at the end.
+pub fn loss_at_end(seed: u64, i: u64) -> Loss {
+    let r = &mut Random::new(seed.rotate_left(32), i);
+    loss(r, ANY, true)
 }

@@ -1,4 +1,4 @@
-// Calls as text, to be stored or run again. The lines w, g and 0 to 3 are those of tools/vectors/losses.py, which says what
+// Calls as text, to be stored or run again. The lines w, g and 0 to 7 are those of tools/vectors/losses.py, which says what
 // they hold. Beside them, over the weights and the slots of the last lines w and g, and without an answer:
 //
 //     s    a formula: its number from 0, three singles, a rating
@@ -140,7 +140,8 @@ impl Reader {
 
     fn loss(&self, entry: u32, words: &mut Words) -> Loss {
         Loss {
-            is_card: entry >= 2,
+            is_end: entry >= 4,
+            is_card: entry % 4 >= 2,
             with_grad: entry % 2 == 0,
             w: self.w.clone(),
             slots: self.slots.clone(),
@@ -186,7 +187,7 @@ impl Reader {
                 self.slots = words.doubles();
                 return None;
             }
-            '0'..='3' => {
+            '0'..='7' => {
                 let case = Case::Loss(self.loss(letter as u32 - '0' as u32, words));
                 return Some(Stored { case, answer: Some([words.number(), words.number(), words.number()]) });
             }

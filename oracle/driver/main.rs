@@ -1,6 +1,7 @@
 // Holds our C functions to the Rust's own text, run over our kernels, with document 01's checks around it.
 //
-//     driver check SEED COUNT     compares generated calls, and an eighth as many files
+//     driver check SEED COUNT     compares generated calls, half as many losses at the end of their tables, each loss in
+//                                 both modes, and an eighth as many files
 //     driver stock SEED COUNT     measures distances; for a driver whose text was left as it is
 //     driver replay FILE...       compares the calls of FILE (lines.rs says what a line holds)
 //     driver vectors FILE...      compares the answers stored in FILE
@@ -66,9 +67,19 @@ fn run(case: &Case, place: &str, tally: &mut Tally) {
     }
 }
 
+fn run_modes(case: &Case, place: &str, tally: &mut Tally) {
+    run(case, place, tally);
+    if let Some(other) = case.in_other_mode() {
+        run(&other, &format!("{place}, in the other mode"), tally);
+    }
+}
+
 fn check(seed: u64, count: u64, tally: &mut Tally) {
     for i in 0..count {
-        run(&generate::case(seed, i), &format!("call {i} of seed {seed}"), tally);
+        run_modes(&generate::case(seed, i), &format!("call {i} of seed {seed}"), tally);
+    }
+    for i in 0..count / 2 {
+        run_modes(&Case::Loss(generate::loss_at_end(seed, i)), &format!("loss {i} at the end of seed {seed}"), tally);
     }
     for i in 0..count / 8 {
         run(&Case::File(damage::file(seed, i)), &format!("file {i} of seed {seed}"), tally);

@@ -1,5 +1,5 @@
 // Document 01's checks and their order, read from it alone: the number of the refusal, 0 where a call is accepted. Of K1's 14,
-// which the text decides, only what is said of it besides.
+// which the text decides, only what is said of it besides. What is read in K5's mode stands apart.
 use crate::cases::{Formula, Loss, Reverse, Step, FIELDS, FROM_SM2, WEIGHTS};
 
 pub const BOX: [(f32, f32); WEIGHTS] = [
@@ -102,23 +102,57 @@ fn card_row_refusal(c: &Loss, n: usize, row: usize, column: usize) -> u32 {
     if reads_day && !is_day(c.days[i]) {
         return 7;
     }
-    let is_good = is_in(weight, (0.0, WEIGHT_MAX)) && (weight == 0.0 || is_in(c.labels[i], UNIT));
-    if is_good { 0 } else { 8 }
+    if is_review(weight, c.labels[i]) { 0 } else { 8 }
+}
+
+fn is_review(weight: f32, label: f32) -> bool {
+    is_in(weight, (0.0, WEIGHT_MAX)) && (weight == 0.0 || is_in(label, UNIT))
+}
+
+// The first refusal among the rows.
+fn rows_refusal(n: usize, f: impl Fn(usize) -> u32) -> u32 {
+    (0..n).map(f).find(|&x| x != 0).unwrap_or(0)
 }
 
 fn column_refusal(c: &Loss, column: usize) -> u32 {
     let n = c.cut(column);
-    let first = |mut rows: std::ops::Range<usize>, f: &dyn Fn(usize) -> u32| {
-        rows.find_map(|row| Some(f(row)).filter(|&x| x != 0)).unwrap_or(0)
-    };
-    if c.is_card {
-        return first(0..n, &|row| card_row_refusal(c, n, row, column));
-    }
-    if n == 0 {
+    if n == 0 && !c.is_card {
         return 9;
     }
-    match first(0..n, &|row| prefix_row_refusal(c, row, column)) {
+    if c.is_end {
+        return end_column_refusal(c, n, column);
+    }
+    if c.is_card {
+        return rows_refusal(n, |row| card_row_refusal(c, n, row, column));
+    }
+    match rows_refusal(n, |row| prefix_row_refusal(c, row, column)) {
         0 => target_refusal(c, column),
+        x => x,
+    }
+}
+
+// K5: 'the first row with a nonzero rating is the first review, its day, weight and label go unread, and padding rows are
+// neither scored nor read beyond their rating. In a card the last row's rating does become read'.
+fn end_row_refusal(c: &Loss, is_last: bool, first: usize, row: usize, column: usize) -> u32 {
+    let i = c.cell(row, column);
+    if !is_rating(c.ratings[i]) {
+        return 6;
+    }
+    if row <= first || c.ratings[i] == 0.0 {
+        return 0;
+    }
+    let is_scored_day = !(c.is_card && is_last && c.weights[i] == 0.0);
+    if is_scored_day && !is_day(c.days[i]) {
+        return 7;
+    }
+    if !c.is_card || is_review(c.weights[i], c.labels[i]) { 0 } else { 8 }
+}
+
+// 'An all-padding prefix scores nothing, its target unread.'
+fn end_column_refusal(c: &Loss, n: usize, column: usize) -> u32 {
+    let first = c.first(column);
+    match rows_refusal(n, |row| end_row_refusal(c, row + 1 == n, first, row, column)) {
+        0 if !c.is_card && first < n => target_refusal(c, column),
         x => x,
     }
 }

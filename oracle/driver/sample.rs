@@ -55,7 +55,7 @@ pub fn run(seed: u64) {
     let mut kept = 0;
     for i in 0..TRIED {
         let r = &mut Random::new(seed, i);
-        let mut c = generate::loss(r, SIZES);
+        let mut c = generate::loss(r, SIZES, false);
         if i % 6 == 0 {
             common = (r.weights(), r.slots(WEIGHTS));
         }

@@ -155,6 +155,43 @@ static uint32_t card_grad(struct call *x) {
                                    x->records, x->records_len, x->step_grads, ROWS, &x->loss);
 }
 
+static uint32_t batch_in(struct call *x, bool end) {
+    return fsrs_batch_loss_in(end, x->w, x->w_len, x->days, x->cells, x->ratings, x->cells, x->rows, x->columns,
+                              x->lengths, COLUMNS, x->target_days, COLUMNS, x->labels, COLUMNS, x->weights, COLUMNS,
+                              &x->loss);
+}
+
+static uint32_t batch_grad_in(struct call *x, bool end) {
+    return fsrs_batch_loss_and_grad_in(end, x->w, x->w_len, x->days, x->cells, x->ratings, x->cells, x->rows,
+                                       x->columns, x->lengths, COLUMNS, x->target_days, COLUMNS, x->labels, COLUMNS,
+                                       x->weights, COLUMNS, x->gw, x->gw_len, x->records, x->records_len, &x->loss);
+}
+
+static uint32_t card_in(struct call *x, bool end) {
+    return fsrs_card_loss_in(end, x->w, x->w_len, x->days, x->cells, x->ratings, x->cells, x->rows, x->columns,
+                             x->lengths, COLUMNS, x->labels, x->cells, x->weights, x->cells, &x->loss);
+}
+
+static uint32_t card_grad_in(struct call *x, bool end) {
+    return fsrs_card_loss_and_grad_in(end, x->w, x->w_len, x->days, x->cells, x->ratings, x->cells, x->rows,
+                                      x->columns, x->lengths, COLUMNS, x->labels, x->cells, x->weights, x->cells, x->gw,
+                                      x->gw_len, x->records, x->records_len, x->step_grads, ROWS, &x->loss);
+}
+
+/* Each of them in both modes. */
+#define MODES(NAME) \
+    static uint32_t NAME##_at_start(struct call *x) { \
+        return NAME##_in(x, false); \
+    } \
+    static uint32_t NAME##_at_end(struct call *x) { \
+        return NAME##_in(x, true); \
+    }
+
+MODES(batch)
+MODES(batch_grad)
+MODES(card)
+MODES(card_grad)
+
 static uint32_t file(struct call *x) {
     return fsrs_batch_file(x->file, x->file_len, x->gw, x->gw_len, &x->loss);
 }
@@ -199,6 +236,14 @@ static const struct function functions[] = {
     {"batch_loss_and_grad", batch_grad, PREFIX | LENT},
     {"card_loss", card, CARD},
     {"card_loss_and_grad", card_grad, CARD | LENT},
+    {"batch_loss_in, start", batch_at_start, PREFIX},
+    {"batch_loss_in, end", batch_at_end, PREFIX},
+    {"batch_loss_and_grad_in, start", batch_grad_at_start, PREFIX | LENT},
+    {"batch_loss_and_grad_in, end", batch_grad_at_end, PREFIX | LENT},
+    {"card_loss_in, start", card_at_start, CARD},
+    {"card_loss_in, end", card_at_end, CARD},
+    {"card_loss_and_grad_in, start", card_grad_at_start, CARD | LENT},
+    {"card_loss_and_grad_in, end", card_grad_at_end, CARD | LENT},
     {"batch_file", file, CARD_FILE},
 };
 
@@ -654,9 +699,39 @@ static struct call one_card(void) {
     return x;
 }
 
+static void expect_same_left(const char *name, const struct call *x, const struct call *y) {
+    expect_double(name, y->loss, x->loss);
+    expect(memcmp(x->gw, y->gw, sizeof x->gw) == 0, "%s: another gradient", name);
+    expect(memcmp(x->records, y->records, sizeof x->records) == 0, "%s: other records", name);
+    expect(memcmp(x->step_grads, y->step_grads, sizeof x->step_grads) == 0, "%s: other step gradients", name);
+}
+
+/* A call without a mode, and the same in both: it has no padding. */
+static void expect_modes(uint32_t (*call)(struct call *), uint32_t (*start)(struct call *), uint32_t (*end)(struct call *)) {
+    struct call x = good(), y = good(), z = good();
+    expect(call(&x) == FSRS_ACCEPTED && start(&y) == FSRS_ACCEPTED && end(&z) == FSRS_ACCEPTED, "a loss was refused");
+    expect_same_left("at the start", &x, &y);
+    expect_same_left("at the end", &x, &z);
+}
+
+static void modes(void) {
+    expect_modes(batch, batch_at_start, batch_at_end);
+    expect_modes(batch_grad, batch_grad_at_start, batch_grad_at_end);
+    expect_modes(card, card_at_start, card_at_end);
+    expect_modes(card_grad, card_grad_at_start, card_grad_at_end);
+    /* a card's last rating is read at the end alone */
+    struct call x = good();
+    x.ratings[(ROWS - 1) * COLUMNS] = 5;
+    expect(card_grad_at_start(&x) == FSRS_ACCEPTED, "a last rating was read at the start");
+    expect_refused("a bad last rating", card_at_end, &x, FSRS_RATING);
+    expect_refused("a bad last rating, with the gradient", card_grad_at_end, &x, FSRS_RATING);
+}
+
 static void losses(void) {
     expect_same_loss(batch, batch_grad);
     expect_same_loss(card, card_grad);
+    expect_same_loss(batch_at_end, batch_grad_at_end);
+    expect_same_loss(card_at_end, card_grad_at_end);
     expect_nothing("one card", card_grad, one_card());
     struct call x = good();
     memset(x.weights, 0, sizeof x.weights);
@@ -717,6 +792,7 @@ static void expect_frozen(const char *name, uint32_t (*call)(struct call *), uin
 static void frozen(void) {
     expect_frozen("a prefix of one row", batch_grad, 1);
     expect_frozen("a card of two rows", card_grad, 2);
+    expect_frozen("a prefix of one row, at the end", batch_grad_at_end, 1);
 }
 
 /* ---- a file's answers, and what is malformed */
@@ -808,6 +884,7 @@ int main(void) {
     steps();
     steps_backward();
     losses();
+    modes();
     frozen();
     files();
     files_refused();

@@ -1,6 +1,6 @@
-/* Runs lists of vectors through the C functions: lists ARITHMETIC STUDY STEP LOSSES, files of crates/vectors/data. Their answers
- * come from a second reading of the rules; the scripts in tools/vectors say what a line holds. Lines about what is no C function
- * are left out. After a refused call what was lent must have the bits that it had. */
+/* Runs lists of vectors through the C functions: lists ARITHMETIC STUDY STEP LOSSES.., files of crates/vectors/data. Their
+ * answers come from a second reading of the rules; the scripts in tools/vectors say what a line holds. Lines about what is no C
+ * function are left out. After a refused call what was lent must have the bits that it had. */
 #include "../../include/fsrs6.h"
 #include "check.h"
 #include <stdlib.h>
@@ -241,7 +241,7 @@ static size_t lend_step_grads(uint64_t n, uint64_t first) {
 static void loss_line(char letter) {
     static struct slice t, r, days, labels, weights;
     static uint32_t lengths[FSRS_MAX_COLUMNS];
-    if (letter < '0' || letter > '3') {
+    if (letter < '0' || letter > '7') {
         return;
     }
     uint32_t rows = (uint32_t)words[0], columns = (uint32_t)words[1];
@@ -268,8 +268,22 @@ static void loss_line(char letter) {
         refusal = fsrs_card_loss_and_grad(TABLES, SCORED, lent.gw, g_len, lent.records, records, lent.step_grads,
                                           step_grads, &lent.loss);
         break;
-    default:
+    case '3':
         refusal = fsrs_card_loss(TABLES, SCORED, &lent.loss);
+        break;
+    case '4':
+        refusal = fsrs_batch_loss_and_grad_in(true, TABLES, days.at, days.n, SCORED, lent.gw, g_len, lent.records,
+                                              records, &lent.loss);
+        break;
+    case '5':
+        refusal = fsrs_batch_loss_in(true, TABLES, days.at, days.n, SCORED, &lent.loss);
+        break;
+    case '6':
+        refusal = fsrs_card_loss_and_grad_in(true, TABLES, SCORED, lent.gw, g_len, lent.records, records,
+                                             lent.step_grads, step_grads, &lent.loss);
+        break;
+    default:
+        refusal = fsrs_card_loss_in(true, TABLES, SCORED, &lent.loss);
     }
     if (expect_refusal(refusal, at[4])) {
         expect_doubles("loss", &lent.loss, at + 5, 1);
@@ -314,13 +328,15 @@ static void run(const char *name, void (*try)(char)) {
 }
 
 int main(int argc, char **argv) {
-    if (argc != 5) {
-        fputs("usage: lists ARITHMETIC STUDY STEP LOSSES\n", stderr);
+    if (argc < 5) {
+        fputs("usage: lists ARITHMETIC STUDY STEP LOSSES..\n", stderr);
         return 2;
     }
     run(argv[1], arithmetic_line);
     run(argv[2], study_line);
     run(argv[3], step_line);
-    run(argv[4], loss_line);
+    for (int i = 4; i < argc; i++) {
+        run(argv[i], loss_line);
+    }
     return finish();
 }

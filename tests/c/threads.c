@@ -101,8 +101,9 @@ static void steps(struct round *x) {
 
 static void losses(struct round *x) {
     float days[CELLS], ratings[CELLS], labels[CELLS], weights[CELLS], records[FSRS_RECORD * ROWS] = {0};
-    double gw[FSRS_WEIGHTS] = {0}, step_grads[ROWS] = {0}, loss[4];
+    double gw[FSRS_WEIGHTS] = {0}, step_grads[ROWS] = {0}, loss[8];
     uint32_t lengths[COLUMNS];
+    bool end = any(x) % 2;
     for (int i = 0; i < CELLS; i++) {
         days[i] = (float)(any(x) % 20);
         ratings[i] = (float)(i < COLUMNS ? 1 + any(x) % 4 : any(x) % 5);
@@ -119,7 +120,11 @@ static void losses(struct round *x) {
     accept(x, fsrs_batch_loss_and_grad(TABLES, days, CELLS, SCORED, LENT, &loss[1]));
     accept(x, fsrs_card_loss(TABLES, SCORED, &loss[2]));
     accept(x, fsrs_card_loss_and_grad(TABLES, SCORED, LENT, step_grads, ROWS, &loss[3]));
-    see_doubles(x, loss, 4);
+    accept(x, fsrs_batch_loss_in(end, TABLES, days, CELLS, SCORED, &loss[4]));
+    accept(x, fsrs_batch_loss_and_grad_in(end, TABLES, days, CELLS, SCORED, LENT, &loss[5]));
+    accept(x, fsrs_card_loss_in(end, TABLES, SCORED, &loss[6]));
+    accept(x, fsrs_card_loss_and_grad_in(end, TABLES, SCORED, LENT, step_grads, ROWS, &loss[7]));
+    see_doubles(x, loss, 8);
     see_doubles(x, gw, FSRS_WEIGHTS);
     see_doubles(x, step_grads, ROWS);
     see_singles(x, records, FSRS_RECORD * ROWS);

@@ -1,26 +1,29 @@
 #!/usr/bin/env python3
-"""Writes crates/vectors/data/losses, the test vectors of the two losses, with gradients and without, and what the program says of it.
+"""Writes crates/vectors/data/losses and aligned, the test vectors of the two losses, with gradients and without, and what the program
+says of them.
 
     tools/vectors/losses.py [SEED]
     tools/vectors/losses.py --self [SEED]    tries what has to hold of the answers, and writes nothing
 
-How the list is made: every answer is computed here, with whole numbers and exact fractions alone, and
+How the lists are made: every answer is computed here, with whole numbers and exact fractions alone, and
 never with a float. The losses are the Rust's own, line by line under its names, from analytic_v6.rs; the
 limits, the refusals, what is read and what is left in the lent slices are document 01's. This is a second
 reading of both, over that of the step and its reverse (analytic.py, which says what it rests on).
+The list `aligned` is change request K5's: histories that stand at the end of their columns, behind padding,
+and the same tables read from the start.
 The arguments are chosen below: first cases by hand, then pseudo-random ones (random.Random(SEED), SEED 1 if
-none is given; only its getrandbits is used).
+none is given; only its getrandbits is used; the second list begins with the seed anew).
 
 lines.py says what all lists share. Here a whole number has as many digits as it needs, a single 8 and a
 double 16. crates/vectors/data/rust holds the same lines: `oracle/run --sample` wrote it, and its answers are
 the Rust's own text's.
 
-    0    batch_loss_and_grad
-    1    batch_loss
-    2    card_loss_and_grad
-    3    card_loss
+    0    batch_loss_and_grad       4    batch_loss_and_grad_in, at the end
+    1    batch_loss                5    batch_loss_in, at the end
+    2    card_loss_and_grad        6    card_loss_and_grad_in, at the end
+    3    card_loss                 7    card_loss_in, at the end
 
-The words of a call are the same for all four; a slice that an entry does not take is empty.
+The words of a call are the same for all eight; a slice that an entry does not take is empty.
 
     rows columns
     days ratings                      two slices of singles, by row and then by column
@@ -47,7 +50,7 @@ value, 5 lapse floored, 6 success), 8 the raw multiplier or value, 9 the multipl
 import sys
 from types import SimpleNamespace
 
-from lines import Lines, below, between, either, seeded
+from lines import Lines, below, between, either, seeded, source
 
 from analytic import (
     BEYOND, BOX, DAY_MAX, DEFAULT, HIGHEST, INF, LEAST, LOWEST, MINUSES, MIXED, NEGATIVE_ZEROS, NONE, NUMBERED, Number,
@@ -57,6 +60,7 @@ from analytic import (
 from floats import F32, F64
 
 NAMES = {"0": "batch_loss_and_grad", "1": "batch_loss", "2": "card_loss_and_grad", "3": "card_loss"}
+ALL_NAMES = {**NAMES, **{str(4 + int(letter)): name + "_in" for letter, name in NAMES.items()}}
 ROWS_MAX, COLUMNS_MAX, WEIGHT_MAX = 2048, 512, single(1000000)
 FIELDS = 10
 CELLS, RECORDS, STEP_GRADS = 128, 640, 64
@@ -111,15 +115,32 @@ def cut(c, column):
     return min(c.lengths[column], c.rows)
 
 
+def first(c, column):
+    """K5: 'the first row with a nonzero rating is the first review', the length if there is none. By document 01 it is row 0."""
+    n = cut(c, column)
+    return next((row for row in range(n) if c.ratings[row * c.columns + column] != 0), n) if c.is_end else 0
+
+
+def weight_at(c, idx):
+    """A card's review weight. K5: 'padding rows are neither scored nor read beyond their rating'."""
+    return ZERO if c.is_end and c.ratings[idx] == 0 else c.weights[idx]
+
+
+def target_weight(c, column):
+    """K5: 'An all-padding prefix scores nothing, its target unread.'"""
+    return ZERO if c.is_end and first(c, column) == cut(c, column) else c.weights[column]
+
+
 def step_at(w, c, state, row, column):
-    """The state after a row, and its cache."""
-    idx = row * c.columns + column
-    return stepped(w, state.s, state.d, c.days[idx], c.ratings[idx], row)[1:]
+    """The state after a row, and its cache. Rows are numbered from the first review, and the state before it stays (0, 0)."""
+    idx, number = row * c.columns + column, row - first(c, column)
+    after, cache = stepped(w, state.s, state.d, c.days[idx], c.ratings[idx], max(number, 0))[1:]
+    return state if number < 0 else after, cache
 
 
 def prefix_loss_and_grad(w, c, column, lent):
     """`lent` is None where no gradients are asked for."""
-    p = runtime(w)
+    p, weight = runtime(w), target_weight(c, column)
     state = SimpleNamespace(s=ZERO, d=ZERO)
     caches = []
     for t in range(cut(c, column)):
@@ -128,9 +149,9 @@ def prefix_loss_and_grad(w, c, column, lent):
         if lent:
             keep(lent.records, t, cache)
     loss, g_s, g_d = double(0), double(0), double(0)
-    if c.weights[column] != 0:
+    if weight != 0:
         curve = curve_forward(p, c.targets[column], state.s)
-        loss, g_r = bce_loss_and_grad_r(curve.retrievability, c.labels[column], c.weights[column])
+        loss, g_r = bce_loss_and_grad_r(curve.retrievability, c.labels[column], weight)
         if lent:
             g_s = curve_backward(p, curve, g_r, lent.gw)
     if lent:
@@ -143,15 +164,16 @@ def card_column_loss_and_grad(w, c, column, lent):
     p = runtime(w)
     state = SimpleNamespace(s=ZERO, d=ZERO)
     loss = double(0)
-    seq_len = cut(c, column)
+    seq_len, reviewed = cut(c, column), first(c, column)
     caches, g_r_losses = [], [double(0)] * seq_len
     for t in range(seq_len):
         idx = t * c.columns + column
+        weight = weight_at(c, idx)
         if t + 1 == seq_len:
             g_s, g_d = double(0), double(0)
-            if t != 0 and c.weights[idx] != 0:
+            if t > reviewed and weight != 0:
                 curve = curve_forward(p, c.days[idx], clamp(state.s, S_MIN, S_MAX))
-                step_loss, g_r = bce_loss_and_grad_r(curve.retrievability, c.labels[idx], c.weights[idx])
+                step_loss, g_r = bce_loss_and_grad_r(curve.retrievability, c.labels[idx], weight)
                 loss += step_loss
                 if lent:
                     g_s = curve_backward(p, curve, g_r, lent.gw) * clamp_grad(state.s, S_MIN, S_MAX)
@@ -161,8 +183,8 @@ def card_column_loss_and_grad(w, c, column, lent):
             break
         state, cache = step_at(w, c, state, t, column)
         caches.append(cache)
-        if t != 0:
-            step_loss, g_r_losses[t] = bce_loss_and_grad_r(cache.retrievability, c.labels[idx], c.weights[idx])
+        if t > reviewed:
+            step_loss, g_r_losses[t] = bce_loss_and_grad_r(cache.retrievability, c.labels[idx], weight)
             loss += step_loss
         if lent:
             keep(lent.records, t, cache)
@@ -180,7 +202,7 @@ def summed(w, c, lent):
     return loss
 
 
-# ---- document 01's refusals
+# ---- document 01's refusals, with K5's first review for row 0
 
 def is_rating(x):
     return any(x == n for n in range(5))
@@ -226,11 +248,12 @@ def prefix_column_refusal(c, column):
         idx = row * c.columns + column
         if not is_rating(c.ratings[idx]):
             return 6
-        if row > 0 and c.ratings[idx] != 0 and not is_day(c.days[idx]):
+        if row > first(c, column) and c.ratings[idx] != 0 and not is_day(c.days[idx]):
             return 7
-    if not is_weight(c.weights[column]):
+    weight = target_weight(c, column)
+    if not is_weight(weight):
         return 8
-    if c.weights[column] != 0:
+    if weight != 0:
         if not is_label(c.labels[column]):
             return 8
         if not is_day(c.targets[column]):
@@ -243,14 +266,15 @@ def card_column_refusal(c, column):
     for row in range(n):
         idx = row * c.columns + column
         is_last = row == n - 1
-        if not is_last and not is_rating(c.ratings[idx]):
+        if (c.is_end or not is_last) and not is_rating(c.ratings[idx]):
             return 6
-        if row > 0:
-            if (c.weights[idx] if is_last else c.ratings[idx]) != 0 and not is_day(c.days[idx]):
+        if row > first(c, column):
+            weight = weight_at(c, idx)
+            if (weight if is_last else c.ratings[idx]) != 0 and not is_day(c.days[idx]):
                 return 7
-            if not is_weight(c.weights[idx]):
+            if not is_weight(weight):
                 return 8
-            if c.weights[idx] != 0 and not is_label(c.labels[idx]):
+            if weight != 0 and not is_label(c.labels[idx]):
                 return 8
     return 0
 
@@ -298,9 +322,16 @@ def digest(lent):
 
 # ---- the list
 
-lines = Lines("losses", NAMES)
-remark = lines.remark
 branches = set()
+
+
+def begin(name, names):
+    """The list that the lines below belong to."""
+    begin.lines = Lines(name, names)
+
+
+def remark(text):
+    begin.lines.remark(text)
 
 
 def slice_of(xs, digits):
@@ -310,13 +341,13 @@ def slice_of(xs, digits):
 def take(w):
     """The weights of the lines below."""
     take.weights = list(w)
-    lines.give("w", *slice_of(w, 8))
+    begin.lines.give("w", *slice_of(w, 8))
 
 
 def start(slots):
     """The slots that the lines below start from."""
     start.slots = list(slots)
-    lines.give("g", *slice_of(slots, 16))
+    begin.lines.give("g", *slice_of(slots, 16))
 
 
 def note_branches(c, lent):
@@ -337,7 +368,8 @@ def tell(c, with_grad=True):
     words += slice_of(c.targets, 8) + slice_of(c.labels, 8) + slice_of(c.weights, 8)
     for (count, first), digits in ((c.records, 8), (c.step_grads, 16)):
         words += [count, "%0*x" % (digits, first)] if with_grad else [0, "0" * digits]
-    lines.add(str(2 * c.is_card + (not with_grad)), *words, n, "%016x" % loss.b, "%016x" % digest(lent))
+    letter = str(4 * c.is_end + 2 * c.is_card + (not with_grad))
+    begin.lines.add(letter, *words, n, "%016x" % loss.b, "%016x" % digest(lent))
 
 
 def both(c):
@@ -384,8 +416,9 @@ def prefix(*columns, rows=None):
     lengths = [len(history) for history in histories]
     rows = max([0, *lengths]) if rows is None else rows
     c = SimpleNamespace(
-        is_card=False, rows=rows, columns=len(columns), days=table(histories, rows, 0), ratings=table(histories, rows, 1),
-        lengths=lengths, targets=[t[2] for t in targets], labels=[t[1] for t in targets], weights=[t[0] for t in targets],
+        is_end=False, is_card=False, rows=rows, columns=len(columns), days=table(histories, rows, 0),
+        ratings=table(histories, rows, 1), lengths=lengths, targets=[t[2] for t in targets], labels=[t[1] for t in targets],
+        weights=[t[0] for t in targets],
     )
     return lend(c, max([0, *lengths]))
 
@@ -396,7 +429,7 @@ def card(*columns, rows=None):
     rows = max([0, *lengths]) if rows is None else rows
     days, ratings, weights, labels = (table(columns, rows, field) for field in range(4))
     c = SimpleNamespace(
-        is_card=True, rows=rows, columns=len(columns), days=days, ratings=ratings, lengths=lengths, targets=[],
+        is_end=False, is_card=True, rows=rows, columns=len(columns), days=days, ratings=ratings, lengths=lengths, targets=[],
         labels=labels, weights=weights,
     )
     return lend(c, max([0, *lengths]))
@@ -420,6 +453,10 @@ def put(c, name, row, column, x):
 
 def places_read(c):
     """Names and places of what an accepted call reads, beside the lengths."""
+    return places_read_at_end(c) if c.is_end else places_read_at_start(c)
+
+
+def places_read_at_start(c):
     read = []
     for column in range(c.columns):
         cells = [row * c.columns + column for row in range(cut(c, column))]
@@ -431,6 +468,21 @@ def places_read(c):
         scored = [i for i in scored if c.weights[i] != 0]
         read += [("labels", i) for i in scored]
         read += [("days", i) for i in scored if i == cells[-1]] if c.is_card else [("targets", i) for i in scored]
+    return read
+
+
+def places_read_at_end(c):
+    read = []
+    for column in range(c.columns):
+        cells = [row * c.columns + column for row in range(cut(c, column))]
+        reviews = [i for i in cells if c.ratings[i] != 0]
+        read += [("ratings", i) for i in cells]
+        scored = reviews[1:] if c.is_card else [column] if reviews else []
+        read += [("weights", i) for i in scored]
+        scored = [i for i in scored if c.weights[i] != 0]
+        read += [("labels", i) for i in scored]
+        read += [] if c.is_card else [("targets", i) for i in scored]
+        read += [("days", i) for i in reviews[1:] if not c.is_card or i != cells[-1] or i in scored]
     return read
 
 
@@ -919,6 +971,181 @@ def long_cases():
     take(DEFAULT)
 
 
+# ---- histories at the end of their columns
+
+def at_end(c):
+    return changed(c, is_end=True)
+
+
+def modes(c):
+    """A table at the end, with gradients and without, and at the start."""
+    both(at_end(c))
+    tell(c)
+
+
+def zero():
+    return either(ZERO, -ZERO)
+
+
+def padded(is_card, *masks):
+    """A column of four rows for each mask, whose bits say which of them are reviews. Padding has a day, a weight and a label too."""
+    reviews = [(3, 3), (1, 1), (0, 2), (7, 4)]
+    columns = [[(day, rating if mask >> i & 1 else zero()) for i, (day, rating) in enumerate(reviews)] for mask in masks]
+    if is_card:
+        return card(*([(*row, 1, below(2)) for row in column] for column in columns))
+    return prefix(*(column + [(1, below(2), 5)] for column in columns))
+
+
+def pad_in_front(c):
+    """The call with some padding at the head of each column, from none to all of its rows."""
+    c = changed(c)
+    for column in range(c.columns):
+        n = cut(c, column)
+        for row in range(either(0, min(1, n), between(0, n), n - 1, n)):
+            put(c, "ratings", row, column, zero())
+    return c
+
+
+def padding_cases():
+    remark("four rows, each a review or padding of either sign: at the end, with gradients and without, and at the start")
+    for mask in range(16):
+        modes(padded(False, mask))
+        modes(padded(True, mask))
+    remark("each rating as the first review, behind no, one and two rows of padding")
+    for rating in range(1, 5):
+        for n in range(3):
+            front = [(between(0, 9), zero()) for _ in range(n)]
+            tell(at_end(prefix(front + [(6, rating), (4, 3), (1, 1, 9)])))
+            tell(at_end(card([(*row, 1, 0) for row in front] + [(6, rating, 1, 0), (4, 3, 1, 1), (2, 1, 1, 0)])))
+    remark("no padding: both modes give the same")
+    for c in (PREFIX, CARD):
+        modes(c)
+    remark("columns in turn, of several lengths and with padding of several: the last one's records and step gradients stay")
+    for masks in ((15, 14, 12, 8), (8, 12, 14, 15), (0, 13, 6, 11), (12, 0, 5, 0), (9, 10, 7, 1)):
+        for is_card in (False, True):
+            c = lend(padded(is_card, *masks), 5, 3)
+            tell(at_end(c))
+            tell(at_end(changed(c, lengths=[between(1, 6) for _ in masks])))
+
+
+def unreviewed_cases():
+    remark("a prefix of padding alone: +0.0, and no slot moves, whatever its target holds; beside others too")
+    for slots in (NUMBERED[:21], MIXED[:21], [double(0)] * 21, MINUSES[:21]):
+        start(slots)
+        for n in (1, 3):
+            both(at_end(prefix([(NONE, zero())] * n + [tuple(either(*BAD[name]) for name in ("weights", "labels", "targets"))])))
+        tell(spoiled(at_end(padded(False, 0, 14, 0))))
+        tell(spoiled(at_end(padded(True, 0, 14, 0, 8))))
+    remark("lengths that leave padding alone, of 1, of 0 (a prefix: refusal 9), and above the rows")
+    for is_card in (False, True):
+        for lengths in ([2, 4, 4], [3, 2, 1], [1, 1, 1], [4, 0, 3], [9, 0xFFFFFFFF, 4], [0, 0, 0]):
+            tell(at_end(changed(padded(is_card, 12, 8, 15), lengths=lengths)))
+    remark("a card's last row: padding, or the first review, scores nothing; a review does, if its weight is not 0")
+    for rating in (ZERO, -ZERO, *numbers((1, 2, 3, 4))):
+        for weight in (ONE, -ZERO):
+            both(at_end(card([(0, 3, 1, 1), (5, rating, weight, 0)], [(0, zero(), 1, 1), (5, rating, weight, 0)])))
+            both(at_end(card([(5, rating, weight, 0)])))
+
+
+def unread_end_cases():
+    remark("bad numbers in the places that go unread at the end, of one kind and of all; the same tables at the start")
+    for c in (padded(False, 12, 10, 0), padded(True, 12, 10, 0), padded(True, 6, 9, 15), padded(False, 5, 2, 15)):
+        c = at_end(c)
+        for name in BAD:
+            if getattr(c, name):
+                tell(spoiled(c, name))
+        for _ in range(2):
+            bad = spoiled(c)
+            both(bad)
+            tell(changed(bad, is_end=False))
+    for _ in range(8):
+        both(spoiled(at_end(pad_in_front(some_call(False, between(1, 3), 5)))))
+        both(spoiled(at_end(pad_in_front(some_call(True, between(1, 3), 5)))))
+
+
+def bad_end_cases():
+    remark("refusals 6, 7 and 8 at the end: a bad number in each place that is read")
+    for c in (padded(False, 14, 10), padded(True, 14, 10)):
+        c = at_end(c)
+        for name, i in places_read(c):
+            bad = changed(c)
+            getattr(bad, name)[i] = either(*BAD[name])
+            one(bad)
+    remark("each bad rating as a column's first that is not 0, and as a card's last, which the start does not read")
+    for x in BAD_RATINGS:
+        one(at_end(put(padded(False, 8, 12), "ratings", 1, 0, x)))
+        modes(put(padded(True, 15, 12), "ratings", 3, 0, x))
+
+
+def order_end_cases():
+    remark("the order at the end: columns; 9; rows: rating, day, weight, label; a target: weight, label, day")
+    for cells in (
+        [("ratings", 3, 0), ("days", 2, 0)], [("days", 3, 0), ("weights", 0, 0)], [("labels", 0, 0), ("targets", 0, 0)],
+        [("weights", 0, 0), ("targets", 0, 0)], [("ratings", 0, 1), ("days", 3, 0)], [("ratings", 1, 1), ("targets", 0, 0)],
+    ):
+        bad_pairs(at_end(padded(False, 14, 12)), *cells)
+    for cells in (
+        [("ratings", 3, 0), ("days", 3, 0)], [("days", 3, 0), ("weights", 3, 0)], [("days", 2, 0), ("weights", 2, 0)],
+        [("days", 2, 0), ("labels", 2, 0)], [("ratings", 3, 0), ("labels", 2, 0)], [("ratings", 0, 1), ("days", 3, 0)],
+        [("ratings", 1, 1), ("weights", 2, 0)],
+    ):
+        bad_pairs(at_end(padded(True, 14, 12)), *cells)
+    remark("refusal 9 at the end, before and after a column with something bad")
+    for lengths in ([0, 4], [4, 0]):
+        tell(at_end(put(changed(padded(False, 12, 12), lengths=lengths), "ratings", 3, 0, NONE)))
+        tell(at_end(put(changed(padded(False, 12, 12), lengths=lengths), "weights", 0, 1, NONE)))
+
+
+def lent_end_cases():
+    remark("refusals 3, 4 and 5 at the end: room is asked for padding too")
+    for c in (at_end(padded(False, 8, 12)), at_end(padded(True, 8, 12))):
+        for room, more in ((4, 0), (4, -1), (5, 7), (3, 0), (2, 0), (0, 0)):
+            tell(lend(changed(c), room, more))
+        for name in ("days", "ratings", "lengths", "targets", "labels", "weights"):
+            if getattr(c, name):
+                one(changed(c, **{name: getattr(c, name)[:-1]}))
+        one(changed(c, rows=ROWS_MAX + 1))
+        one(changed(c, columns=COLUMNS_MAX + 1))
+        tell(changed(c, columns=0))
+    for step_grads in (3, 4, 6):
+        tell(lend(at_end(padded(True, 8, 12)), 4, 0, step_grads))
+    for n in (0, 20, 22):
+        start((NUMBERED + NUMBERED)[:n])
+        both(at_end(padded(False, 8, 12)))
+        both(at_end(padded(True, 8, 12)))
+    remark("refusals 1 and 2 at the end")
+    start(MINUSES[:21])
+    for w in (with_some(DEFAULT, w20=up(ONE)), DEFAULT[:20], []):
+        take(w)
+        both(at_end(padded(False, 8, 12)))
+        both(at_end(padded(True, 8, 12)))
+    take(DEFAULT)
+
+
+def some_end_cases(most):
+    for is_card in (False, True):
+        c = pad_in_front(some_call(is_card, either(1, 2, 3), most))
+        tell(at_end(c), below(6) > 0)
+        one(either(c, spoiled(at_end(c))))
+
+
+def weight_end_cases():
+    remark("pseudo-random, padded in front: corners of the box, weights near the default, and others; some at the start as well")
+    for w in (LOWEST, HIGHEST, NEGATIVE_ZEROS, corner(lambda i: i % 2), *(corner(lambda i: below(2)) for _ in range(2))):
+        take(w)
+        some_end_cases(5)
+    for i in range(8):
+        take(near_default() if i % 2 else some_set())
+        start(either(MINUSES, NUMBERED, MIXED)[:21])
+        some_end_cases(either(3, 5, 8, 12))
+    remark("64 rows")
+    take(DEFAULT)
+    for n in (0, 20, 63):
+        front = [(some_day(), zero()) for _ in range(n)]
+        tell(at_end(prefix(front + some_prefix_column(64 - n))))
+        tell(at_end(card([(*row, 1, 0) for row in front] + some_card_column(64 - n))))
+
+
 # ---- what has to hold of the answers
 
 def outcome(w, slots, c, with_grad=True):
@@ -966,17 +1193,42 @@ def hold(w, slots, c):
         assert outcome(w, slots, bad, False) == refused[:2]
 
 
+def moved(c):
+    """A call at the end, moved to the start: its columns without the padding in front, all other padding with the weight 0. A prefix
+    of padding alone keeps one row of it, and its target gets the weight 0."""
+    to, tables = changed(c, is_end=False), ("days", "ratings", "labels") if c.is_card else ("days", "ratings")
+    for column in range(c.columns):
+        begins, n = first(c, column), cut(c, column)
+        for row in range(begins, n):
+            idx = row * c.columns + column
+            for name in tables:
+                put(to, name, row - begins, column, getattr(c, name)[idx])
+            if c.is_card:
+                put(to, "weights", row - begins, column, weight_at(c, idx))
+        to.lengths[column] = n - begins
+        if not c.is_card and begins == n:
+            to.lengths[column], to.weights[column] = 1, ZERO
+    return to
+
+
+def hold_at_end(w, slots, c):
+    hold(w, slots, c)
+    assert outcome(w, slots, c)[:3] == outcome(w, slots, moved(c))[:3]
+
+
 def try_answers():
     tried = 0
     for slots in (MINUSES[:21], NUMBERED[:21], MIXED[:21]):
         for w in (DEFAULT, near_default(), some_set(), LOWEST, HIGHEST):
             for is_card in (False, True):
                 hold(w, slots, some_call(is_card, between(1, 3), 5))
-                tried += 1
+                hold_at_end(w, slots, at_end(pad_in_front(some_call(is_card, between(1, 3), 5))))
+                tried += 2
     print("%d calls hold" % tried)
 
 
-def main():
+def write_losses():
+    begin("losses", NAMES)
     remark("Test vectors of analytic_v6's losses, seed %d: made by tools/vectors/losses.py, which says how" % seed)
     take(DEFAULT)
     start(MINUSES[:21])
@@ -996,10 +1248,27 @@ def main():
     weight_cases()
     long_cases()
     assert branches == {single(n).b for n in range(7)}
-    lines.write()
+    begin.lines.write()
+
+
+def write_aligned():
+    begin("aligned", ALL_NAMES)
+    source.seed(seed)
+    remark("Test vectors of analytic_v6's losses at the end, seed %d: made by tools/vectors/losses.py, which says how" % seed)
+    take(DEFAULT)
+    start(MINUSES[:21])
+    padding_cases()
+    unreviewed_cases()
+    unread_end_cases()
+    bad_end_cases()
+    order_end_cases()
+    lent_end_cases()
+    weight_end_cases()
+    begin.lines.write()
 
 
 if is_trial:
     try_answers()
 else:
-    main()
+    write_losses()
+    write_aligned()

@@ -1,9 +1,9 @@
 //! The scalar core of FSRS-6: kernels, formulas, the training step and the two losses, each proved to be its definition.
 //!
-//! These are safe functions over the C library of `include/fsrs6.h`, one for each of its functions and under its name. A
-//! call answers, or gives the [`Refusal`] by which it was refused and has then written nothing. Every argument is checked:
-//! no input panics, and any bits may stand in any number. The header has the range of each, and which cells of a loss call
-//! are read.
+//! These are safe functions over the C library of `include/fsrs6.h`, one for each of its functions and under its name; a
+//! loss has one, and its batch tells the mode ([`Align`]). A call answers, or gives the [`Refusal`] by which it was refused
+//! and has then written nothing. Every argument is checked: no input panics, and any bits may stand in any number. The
+//! header has the range of each, and which cells of a loss call are read.
 //!
 //! ```
 //! use fsrs6::{check_and_fill_parameters, next_interval, next_state, State};
@@ -40,7 +40,9 @@ pub use formulas::{
 pub use kernels::{
     exp_f32, exp_f64, expm1_f32, fma_f32, fma_f64, ln_f32, ln_f64, pow_f32, pow_f64, round_f32, round_f64,
 };
-pub use losses::{batch_file, batch_loss, batch_loss_and_grad, card_loss, card_loss_and_grad, Cards, Gradient, Prefixes};
+pub use losses::{
+    batch_file, batch_loss, batch_loss_and_grad, card_loss, card_loss_and_grad, Align, Cards, Gradient, Prefixes,
+};
 pub use refusal::Refusal;
 pub use step::{training_step, training_step_backward, StateGradient, Step, Stepped};
 

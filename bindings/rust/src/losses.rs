@@ -2,6 +2,49 @@
 
 use crate::{raw, Refusal, MAX_ROWS, RECORD, WEIGHTS};
 
+/// Where the histories of a batch stand in their columns.
+///
+/// ```
+/// use fsrs6::{card_loss, check_and_fill_parameters, Align, Cards, Refusal};
+/// let w = check_and_fill_parameters(&[])?;
+/// let start = Cards {
+///     rows: 2,
+///     columns: 1,
+///     days: &[0.0, 4.0],
+///     ratings: &[3.0, 1.0],
+///     lengths: &[2],
+///     labels: &[0.0, 0.0],
+///     weights: &[0.0, 1.0],
+///     ..Default::default()
+/// };
+/// // the same card behind two rows of padding, of which only the ratings are read
+/// let none = f32::NAN;
+/// let end = Cards {
+///     rows: 4,
+///     days: &[none, none, 0.0, 4.0],
+///     ratings: &[0.0, 0.0, 3.0, 1.0],
+///     lengths: &[4],
+///     labels: &[none, none, none, 0.0],
+///     weights: &[none, none, none, 1.0],
+///     align: Align::End,
+///     ..start
+/// };
+/// assert_eq!(card_loss(&w, &end), card_loss(&w, &start));
+/// assert_eq!(card_loss(&w, &Cards { align: Align::Start, ..end }), Err(Refusal::Review));
+/// # Ok::<(), Refusal>(())
+/// ```
+#[derive(Clone, Copy, Debug, Default, PartialEq, Eq)]
+pub enum Align {
+    /// From row 0 on, as the Rust crate has it: row 0 is the first review. A card's padding is scored too, unless its
+    /// weight is 0, and the last rating of a card is not read.
+    #[default]
+    Start,
+    /// Up to the last row, behind padding: the first row whose rating is not 0 is the first review. Padding is not scored,
+    /// wherever it stands, and nothing of it is read but its rating; nor is a prefix scored that is all padding. The last
+    /// rating of a card is read, for it tells whether that row is scored.
+    End,
+}
+
 /// A batch of prefixes: each column is a history, and the review after it is scored.
 ///
 /// The tables `days` and `ratings` are by row and then by column: cell `row * columns + column`. Everything else has one
@@ -24,6 +67,8 @@ pub struct Prefixes<'a> {
     pub labels: &'a [f32],
     /// How much the scored review counts.
     pub weights: &'a [f32],
+    /// Where the histories stand.
+    pub align: Align,
 }
 
 /// A batch of cards: every review of a column after its first is scored.
@@ -45,6 +90,8 @@ pub struct Cards<'a> {
     pub labels: &'a [f32],
     /// Table: how much a review counts.
     pub weights: &'a [f32],
+    /// Where the histories stand.
+    pub align: Align,
 }
 
 /// The loss of a batch of prefixes.
@@ -64,6 +111,7 @@ pub struct Cards<'a> {
 ///     target_days: &[4.0],
 ///     labels: &[1.0],
 ///     weights: &[1.0],
+///     ..Default::default()
 /// };
 /// assert!(batch_loss(&w, &one)? > 0.0);
 /// assert_eq!(batch_loss(&w, &Prefixes { weights: &[0.0], ..one }), Ok(0.0));
@@ -93,6 +141,7 @@ pub fn batch_loss(w: &[f32], prefixes: &Prefixes) -> Result<f64, Refusal> {
 ///     target_days: &[4.0],
 ///     labels: &[1.0],
 ///     weights: &[1.0],
+///     ..Default::default()
 /// };
 /// let (mut gw, mut records) = ([0.0; 21], [0.0; 10]);
 /// assert_eq!(batch_loss_and_grad(&w, &one, &mut gw, &mut records), batch_loss(&w, &one));
@@ -125,6 +174,7 @@ pub fn batch_loss_and_grad(
 ///     lengths: &[2],
 ///     labels: &[0.0, 1.0],
 ///     weights: &[0.0, 1.0],
+///     ..Default::default()
 /// };
 /// assert!(card_loss(&w, &one)? > 0.0);
 /// assert_eq!(card_loss(&w, &Cards { lengths: &[1], ..one }), Ok(0.0)); // a first review is not scored
@@ -153,6 +203,7 @@ pub fn card_loss(w: &[f32], cards: &Cards) -> Result<f64, Refusal> {
 ///     lengths: &[2],
 ///     labels: &[0.0, 1.0],
 ///     weights: &[0.0, 1.0],
+///     ..Default::default()
 /// };
 /// let (mut gw, mut records, mut step_grads) = ([0.0; 21], [0.0; 20], [0.0; 2]);
 /// assert_eq!(card_loss_and_grad(&w, &one, &mut gw, &mut records, &mut step_grads), card_loss(&w, &one));
@@ -197,6 +248,7 @@ pub fn batch_file(file: &[u8], gw: &mut [f64]) -> Result<f64, Refusal> {
 ///     lengths: &[2],
 ///     labels: &[0.0, 1.0],
 ///     weights: &[0.0, 1.0],
+///     ..Default::default()
 /// };
 /// let mut gradient = Gradient::default();
 /// let loss = gradient.add_cards(&w, &one)?;

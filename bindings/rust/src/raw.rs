@@ -4,9 +4,9 @@
 //! a slice's pointer also where it is empty; as many entries as the slice's length says; and nothing else that is lent
 //! overlaps what is lent by `&mut`. This is the ground of every call below.
 
-use crate::{Cards, Prefixes, Refusal, State, StateGradient, Step, Stepped, RECORD, WEIGHTS};
+use crate::{Align, Cards, Prefixes, Refusal, State, StateGradient, Step, Stepped, RECORD, WEIGHTS};
 
-/// The declarations, as in the header.
+/// The declarations, as in the header. Of a loss that is the function that takes the mode.
 mod c {
     extern "C" {
         pub fn fsrs_exp_f32(x: f32) -> f32;
@@ -113,7 +113,8 @@ mod c {
             grad_d: *mut f64,
         ) -> u32;
 
-        pub fn fsrs_batch_loss(
+        pub fn fsrs_batch_loss_in(
+            end: bool,
             w: *const f32,
             w_len: usize,
             t_hist: *const f32,
@@ -132,7 +133,8 @@ mod c {
             weights_len: usize,
             loss: *mut f64,
         ) -> u32;
-        pub fn fsrs_batch_loss_and_grad(
+        pub fn fsrs_batch_loss_and_grad_in(
+            end: bool,
             w: *const f32,
             w_len: usize,
             t_hist: *const f32,
@@ -155,7 +157,8 @@ mod c {
             records_len: usize,
             loss: *mut f64,
         ) -> u32;
-        pub fn fsrs_card_loss(
+        pub fn fsrs_card_loss_in(
+            end: bool,
             w: *const f32,
             w_len: usize,
             t_hist: *const f32,
@@ -172,7 +175,8 @@ mod c {
             weights_len: usize,
             loss: *mut f64,
         ) -> u32;
-        pub fn fsrs_card_loss_and_grad(
+        pub fn fsrs_card_loss_and_grad_in(
+            end: bool,
             w: *const f32,
             w_len: usize,
             t_hist: *const f32,
@@ -356,6 +360,7 @@ macro_rules! losses {
             // this function's.
             let number = unsafe {
                 c::$c(
+                    $x.align == Align::End,
                     w.as_ptr(),
                     w.len(),
                     $x.days.as_ptr(),
@@ -377,11 +382,11 @@ macro_rules! losses {
 }
 
 losses! {
-    batch_loss = fsrs_batch_loss(x: Prefixes, [target_days, labels, weights], []);
-    batch_loss_and_grad = fsrs_batch_loss_and_grad(
+    batch_loss = fsrs_batch_loss_in(x: Prefixes, [target_days, labels, weights], []);
+    batch_loss_and_grad = fsrs_batch_loss_and_grad_in(
         x: Prefixes, [target_days, labels, weights], [gw: f64, records: f32]);
-    card_loss = fsrs_card_loss(x: Cards, [labels, weights], []);
-    card_loss_and_grad = fsrs_card_loss_and_grad(
+    card_loss = fsrs_card_loss_in(x: Cards, [labels, weights], []);
+    card_loss_and_grad = fsrs_card_loss_and_grad_in(
         x: Cards, [labels, weights], [gw: f64, records: f32, step_grads: f64]);
 }
 

@@ -22,6 +22,7 @@ struct Call {
     ratings: Vec<f32>,
     labels: Vec<f32>,
     weights: Vec<f32>,
+    align: Align,
     gw: Vec<f64>,
     records: Vec<f32>,
     step_grads: Vec<f64>,
@@ -41,6 +42,7 @@ impl Call {
             ratings: vec![3.0, 1.0, 2.0, 3.0, 1.0, 4.0],
             labels: vec![1.0, 0.0, 0.0, 1.0, 1.0, 0.5],
             weights: vec![1.0, 2.0, 0.5, 1.0, 1.0, 3.0],
+            align: Align::Start,
             gw: (0..WEIGHTS).map(|i| i as f64).collect(),
             records: vec![7.0; RECORD * ROWS],
             step_grads: vec![8.0; ROWS],
@@ -63,6 +65,7 @@ impl Call {
             target_days: &self.days[..COLUMNS],
             labels: &self.labels[..COLUMNS],
             weights: &self.weights[..COLUMNS],
+            align: self.align,
         }
     }
 
@@ -75,6 +78,7 @@ impl Call {
             lengths: &self.lengths,
             labels: &self.labels,
             weights: &self.weights,
+            align: self.align,
         }
     }
 
@@ -124,14 +128,17 @@ const CARD_GRAD: Function = |x| {
     card_loss_and_grad(&y.w, &y.cards(), &mut x.gw, &mut x.records, &mut x.step_grads).map(drop)
 };
 
-/// Each function accepts the good call, and refuses it with the fault, writing nothing.
+/// Each function accepts the good call, and refuses it with the fault, writing nothing; in both modes.
 fn refuse(functions: &[Function], refusal: Refusal, fault: fn(&mut Call)) {
-    for (i, function) in functions.iter().enumerate() {
-        assert_eq!(function(&mut Call::good()), Ok(()), "function {i}");
-        let mut x = Call::with(fault);
-        let lent = x.lent();
-        assert_eq!(function(&mut x), Err(refusal), "function {i}");
-        assert_eq!(x.lent(), lent, "function {i}: {refusal}, and something was written");
+    for align in [Align::Start, Align::End] {
+        for (i, function) in functions.iter().enumerate() {
+            let mut x = Call::with(|x| x.align = align);
+            assert_eq!(function(&mut x.clone()), Ok(()), "function {i}");
+            fault(&mut x);
+            let lent = x.lent();
+            assert_eq!(function(&mut x), Err(refusal), "function {i}");
+            assert_eq!(x.lent(), lent, "function {i}: {refusal}, and something was written");
+        }
     }
 }
 
@@ -347,6 +354,71 @@ fn a_review_of_weight_0_gives_nothing() {
     assert_eq!(gradient.add_prefixes(&x.w, &x.prefixes()), Ok(0.0));
     assert_eq!(gradient.add_cards(&x.w, &x.cards()), Ok(0.0));
     assert_eq!(gradient.slots, [0.0; WEIGHTS]);
+}
+
+/// The losses of both kinds, and the slots that their gradients leave.
+fn losses(x: &Call) -> (Result<f64, Refusal>, Result<f64, Refusal>, [f64; WEIGHTS]) {
+    let mut gradient = Gradient::default();
+    let prefixes = gradient.add_prefixes(&x.w, &x.prefixes());
+    let cards = gradient.add_cards(&x.w, &x.cards());
+    assert_eq!((prefixes, cards), (batch_loss(&x.w, &x.prefixes()), card_loss(&x.w, &x.cards())));
+    (prefixes, cards, gradient.slots)
+}
+
+/// The good call with a row of padding in front of its columns, of which only the ratings are good.
+fn behind_padding() -> Call {
+    let padded = |xs: &mut Vec<f32>, x: f32| drop(xs.splice(0..0, [x; COLUMNS]));
+    let mut x = Call::with(|x| {
+        padded(&mut x.days, f32::NAN);
+        padded(&mut x.ratings, -0.0);
+        padded(&mut x.labels, f32::INFINITY);
+        padded(&mut x.weights, -1.0);
+        x.lengths.iter_mut().for_each(|n| *n += 1);
+    });
+    (x.rows, x.align) = (ROWS as u32 + 1, Align::End);
+    x
+}
+
+#[test]
+fn histories_stand_at_the_start_by_default() {
+    assert_eq!((Prefixes::default().align, Cards::default().align), (Align::Start, Align::Start));
+    // the good call has no padding
+    assert_eq!(losses(&Call::with(|x| x.align = Align::End)), losses(&Call::good()));
+}
+
+#[test]
+fn a_deck_behind_padding_is_that_without_it() {
+    let (x, y) = (Call::good(), behind_padding());
+    let (mut at_start, mut at_end) = (Gradient::default(), Gradient::default());
+    assert_eq!(at_end.add_cards(&y.w, &y.cards()), at_start.add_cards(&x.w, &x.cards()));
+    let target = x.prefixes(); // one to a column, so that no padding is before it
+    let prefixes =
+        Prefixes { target_days: target.target_days, labels: target.labels, weights: target.weights, ..y.prefixes() };
+    assert_eq!(at_end.add_prefixes(&y.w, &prefixes), at_start.add_prefixes(&x.w, &target));
+    assert_eq!(at_end.slots, at_start.slots);
+    // at the start its first reviews would not be taken for such
+    assert_ne!(card_loss(&y.w, &Cards { align: Align::Start, ..y.cards() }), card_loss(&y.w, &y.cards()));
+}
+
+#[test]
+fn a_last_rating_is_read_at_the_end_alone() {
+    let last = (ROWS - 1) * COLUMNS;
+    let x = Call::with(|x| x.ratings[last] = 5.0);
+    assert_eq!(card_loss(&x.w, &x.cards()), card_loss(&x.w, &Call::good().cards()));
+    assert_eq!(card_loss(&x.w, &Cards { align: Align::End, ..x.cards() }), Err(Refusal::Rating));
+}
+
+#[test]
+fn padding_alone_scores_nothing_at_the_end() {
+    let x = Call::with(|x| {
+        x.align = Align::End;
+        x.ratings.fill(0.0);
+        x.days.fill(f32::NAN);
+        x.labels.fill(f32::NAN);
+        x.weights.fill(f32::NAN);
+    });
+    let (prefixes, cards, slots) = losses(&x);
+    assert_eq!((prefixes.map(f64::to_bits), cards.map(f64::to_bits), slots), (Ok(0), Ok(0), [0.0; WEIGHTS]));
 }
 
 mod files {

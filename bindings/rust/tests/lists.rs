@@ -169,9 +169,10 @@ fn digest(slots: &[f64], records: &[f32], step_grads: &[f64]) -> u64 {
     })
 }
 
-#[test]
-fn losses() {
-    run("losses", |letter, words, w, slots| {
+/// A list of losses: 0 to 3 at the start, 4 to 7 the same at the end.
+fn run_losses(name: &str) {
+    run(name, |letter, words, w, slots| {
+        let align = if letter < '4' { Align::Start } else { Align::End };
         let (rows, columns) = (words.number() as u32, words.number() as u32);
         let (days, ratings) = (words.singles(), words.singles());
         let lengths: Vec<u32> = words.slice().into_iter().map(|n| n as u32).collect();
@@ -183,20 +184,30 @@ fn losses() {
         let [days, ratings, target_days, labels, weights] =
             [&days, &ratings, &target_days, &labels, &weights].map(|x| &x[..]);
         let lengths = &lengths[..];
-        let prefixes = Prefixes { rows, columns, days, ratings, lengths, target_days, labels, weights };
-        let cards = Cards { rows, columns, days, ratings, lengths, labels, weights };
+        let prefixes = Prefixes { rows, columns, days, ratings, lengths, target_days, labels, weights, align };
+        let cards = Cards { rows, columns, days, ratings, lengths, labels, weights, align };
         let mut gw = slots.to_vec();
         let answer = match letter {
-            '0' => batch_loss_and_grad(w, &prefixes, &mut gw, &mut records),
-            '1' => batch_loss(w, &prefixes),
-            '2' => card_loss_and_grad(w, &cards, &mut gw, &mut records, &mut step_grads),
-            '3' => card_loss(w, &cards),
+            '0' | '4' => batch_loss_and_grad(w, &prefixes, &mut gw, &mut records),
+            '1' | '5' => batch_loss(w, &prefixes),
+            '2' | '6' => card_loss_and_grad(w, &cards, &mut gw, &mut records, &mut step_grads),
+            '3' | '7' => card_loss(w, &cards),
             _ => return None,
         };
-        let is_alone = letter == '1' || letter == '3';
+        let is_alone = "1357".contains(letter);
         let left = digest(if is_alone { &[] } else { &gw }, &records, &step_grads);
         let is = (answer.map_or_else(|x| x.number().into(), |_| 0), vec![double_bits(answer.unwrap_or(0.0)), left]);
         let want = (words.number(), words.numbers(2));
         Some((is, want))
     });
+}
+
+#[test]
+fn losses() {
+    run_losses("losses");
+}
+
+#[test]
+fn aligned() {
+    run_losses("aligned");
 }

@@ -29,6 +29,10 @@ module _ (p : RuntimeParams) (x : Cards) (column : ℕ) where
   abbrev pub lastRow : ℕ
   lastRow = cardLength - 1
 
+  -- from the first review
+  abbrev pub lastNumber : ℕ
+  lastNumber = lastRow - history (x .table) column .first
+
   abbrev pub lastStability : Float
   lastStability = stateAt p (history (x .table) column) lastRow .s
 
@@ -41,7 +45,7 @@ module _ (p : RuntimeParams) (x : Cards) (column : ℕ) where
   unfoldable pub cardLoss : Float
   cardLoss =
       cond (eqb cardLength 0) zero64
-      (lastLoss p lastRow lastStability lastDay (labelAt x column lastRow) (weightAt x column lastRow) lossBefore)
+      (lastLoss p lastNumber lastStability lastDay (labelAt x column lastRow) (weightAt x column lastRow) lossBefore)
 
   -- first the last row's curve, then the steps, the last first, each with the gradient of its own score
   unfoldable pub cardSlots : (gw : List Float) → List Float
@@ -50,8 +54,8 @@ module _ (p : RuntimeParams) (x : Cards) (column : ℕ) where
       (backDef p (recordAt p (history (x .table) column))
       (λ row. scoreAt p (history (x .table) column) (labelAt x column) (weightAt x column) row .«g_r»)
       lastRow
-      (startGrad (lastGrad p lastRow lastStability lastDay (labelAt x column lastRow) (weightAt x column lastRow)))
-      (lastSlots p lastRow lastStability lastDay (labelAt x column lastRow) (weightAt x column lastRow) gw))
+      (startGrad (lastGrad p lastNumber lastStability lastDay (labelAt x column lastRow) (weightAt x column lastRow)))
+      (lastSlots p lastNumber lastStability lastDay (labelAt x column lastRow) (weightAt x column lastRow) gw))
 
   unfoldable pub cardRecords : (records : List Float) → List Float
   cardRecords records = storedDef p (history (x .table) column) lastRow records

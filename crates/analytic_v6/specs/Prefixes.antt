@@ -9,7 +9,7 @@ use Rattle.domain.specs.Weights.{_!_}
 use Rattle.domain.specs.Doubles.{zero64}
 use Rattle.forward.specs.Params.{paramsDef}
 use Rattle.forward.specs.declared.parameters.RuntimeParams.{RuntimeParams}
-use Rattle.checks.specs.Batch.{Prefixes, lengthAt, history}
+use Rattle.checks.specs.Batch.{Prefixes, lengthAt, history, targetWeightAt}
 use Rattle.checks.specs.Columns.{total}
 use Rattle.checks.specs.Refusals.{prefixLossRefusal, prefixGradRefusal}
 use Rattle.columns.specs.Records.{roomDef}
@@ -26,14 +26,14 @@ module _ (p : RuntimeParams) (x : Prefixes) (column : ℕ) where
   targetStability = stateAt p (history (x .table) column) (lengthAt (x .table) column) .s
 
   unfoldable pub prefixLoss : Float
-  prefixLoss = targetLoss p targetStability (x .days ! column) (x .labels ! column) (x .weights ! column)
+  prefixLoss = targetLoss p targetStability (x .days ! column) (x .labels ! column) (targetWeightAt x column)
 
   -- first the target's curve, then its steps, the last first; no step of a prefix is scored
   unfoldable pub prefixSlots : (gw : List Float) → List Float
   prefixSlots gw =
       backDef p (recordAt p (history (x .table) column)) (λ row. zero64) (lengthAt (x .table) column)
-      (startGrad (targetGrad p targetStability (x .days ! column) (x .labels ! column) (x .weights ! column)))
-      (targetSlots p targetStability (x .days ! column) (x .labels ! column) (x .weights ! column) gw)
+      (startGrad (targetGrad p targetStability (x .days ! column) (x .labels ! column) (targetWeightAt x column)))
+      (targetSlots p targetStability (x .days ! column) (x .labels ! column) (targetWeightAt x column) gw)
 
   unfoldable pub prefixRecords : (records : List Float) → List Float
   prefixRecords records = storedDef p (history (x .table) column) (lengthAt (x .table) column) records

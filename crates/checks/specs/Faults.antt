@@ -1,13 +1,14 @@
 -- The first fault among the cells that a loss call reads, with its place: 'columns ascending: 9, then rows ascending (rating, day,
 -- weight, label), then a prefix target (weight, label, day)'. Assumes nothing.
-use Prim.Native.Nat.{ℕ, zero, suc}
-use mathlib.Core.Bool.{cond}
+use Prim.Native.Nat.{ℕ, zero, suc, _-_}
+use mathlib.Core.Bool.{Bool, cond}
 use mathlib.Core.List.{List}
 use lib.Dec.{eqb}
 use lib.Ieee.{Float}
 use Rattle.domain.specs.Weights.{_!_}
-use Rattle.checks.specs.Reads.{prefixRow, cardRow, targetDef}
-use Rattle.checks.specs.Batch.{History, Prefixes, Cards, lengthAt, history, labelAt, weightAt}
+use Rattle.checks.specs.Align.{isEnd}
+use Rattle.checks.specs.Reads.{isLast, prefixRow, cardRow, targetDef}
+use Rattle.checks.specs.Batch.{History, Prefixes, Cards, lengthAt, history, targetWeightAt, labelAt, weightAt}
 use Rattle.checks.specs.declared.fault.Fault.{Fault}
 
 unfoldable pub noFault : Fault
@@ -31,11 +32,11 @@ unfoldable pub rowsFault : (bad : ℕ → ℕ) (column n : ℕ) → Fault
 rowsFault bad column n = firstFault (λ row. faultAt (bad row) column row) n
 
 abbrev pub prefixRows : (h : History) (column n : ℕ) → Fault
-prefixRows h column n = rowsFault (λ row. prefixRow row (h .day row) (h .rating row)) column n
+prefixRows h column n = rowsFault (λ row. prefixRow (row - h .first) (h .day row) (h .rating row)) column n
 
 -- its row is the cut length
-unfoldable pub targetFault : (days labels weights : List Float) (column n : ℕ) → Fault
-targetFault days labels weights column n = faultAt (targetDef (weights ! column) (labels ! column) (days ! column)) column n
+unfoldable pub targetFault : (days labels : List Float) (weight : Float) (column n : ℕ) → Fault
+targetFault days labels weight column n = faultAt (targetDef weight (labels ! column) (days ! column)) column n
 
 unfoldable pub prefixColumn : (x : Prefixes) (column : ℕ) → Fault
 prefixColumn x column =
@@ -43,17 +44,18 @@ prefixColumn x column =
     let n = lengthAt t column in
     cond (eqb n 0)
     (record { refusal = 9; column = column; row = 0 })
-    (orElse (prefixRows (history t column) column n) (targetFault (x .days) (x .labels) (x .weights) column n))
+    (orElse (prefixRows (history t column) column n) (targetFault (x .days) (x .labels) (targetWeightAt x column) column n))
 
 unfoldable pub prefixFault : Prefixes → Fault
 prefixFault x = firstFault (prefixColumn x) (x .table .columns)
 
-abbrev pub cardRows : (h : History) (label weight : ℕ → Float) (column n : ℕ) → Fault
-cardRows h label weight column n =
-    rowsFault (λ row. cardRow n row (h .day row) (h .rating row) (weight row) (label row)) column n
+abbrev pub cardRows : (end : Bool) (h : History) (label weight : ℕ → Float) (column n : ℕ) → Fault
+cardRows end h label weight column n =
+    rowsFault (λ row. cardRow end (isLast n row) (row - h .first) (h .day row) (h .rating row) (weight row) (label row)) column n
 
 unfoldable pub cardColumn : (x : Cards) (column : ℕ) → Fault
-cardColumn x column = cardRows (history (x .table) column) (labelAt x column) (weightAt x column) column (lengthAt (x .table) column)
+cardColumn x column =
+    let t = x .table in cardRows (isEnd (t .align)) (history t column) (labelAt x column) (weightAt x column) column (lengthAt t column)
 
 unfoldable pub cardFault : Cards → Fault
 cardFault x = firstFault (cardColumn x) (x .table .columns)

@@ -1,3 +1,4 @@
+pub mod Align
 pub mod Batch
 pub mod Columns
 pub mod Faults

@@ -1,5 +1,6 @@
 -- Document 01, 'Which cells and weights are read' and 'Domain': the cells of one row that count as read, and which of their values
--- are good. The checks and demand 3 share this page. Assumes nothing.
+-- are good. The checks and demand 3 share this page. A row is its number from the column's first review, and a review weight what it
+-- counts for (Align.antt); by document 01 that is the row's own number and the weight's cell. Assumes nothing.
 use Prim.Native.Nat.{ℕ, suc}
 use mathlib.Core.Bool.{Bool, true, not, _&&_, _||_, cond}
 use lib.Dec.{eqb}
@@ -39,12 +40,12 @@ unfoldable pub prefixDay : (row : ℕ) (rating : Float) → Bool
 prefixDay row rating = later row && nonZero rating
 
 -- A card of n rows reads 'days of rows 1..n-2 with rating not 0', and 'the last row's day if n > 1 and its weight is not 0';
-unfoldable pub cardDay : (n row : ℕ) (rating weight : Float) → Bool
-cardDay n row rating weight = later row && cond (isLast n row) (nonZero weight) (nonZero rating)
+unfoldable pub cardDay : (last : Bool) (row : ℕ) (rating weight : Float) → Bool
+cardDay last row rating weight = later row && cond last (nonZero weight) (nonZero rating)
 
--- 'ratings of rows 0..n-2': 'the last rating is never read';
-unfoldable pub cardRating : (n row : ℕ) → Bool
-cardRating n row = not (isLast n row)
+-- 'ratings of rows 0..n-2': 'the last rating is never read'; K5: 'In a card the last row's rating does become read', at the end;
+unfoldable pub cardRating : (end last : Bool) → Bool
+cardRating end last = end || not last
 
 -- 'weights of rows 1..n-1; a label only if its weight is not 0'.
 unfoldable pub cardLabel : (row : ℕ) (weight : Float) → Bool
@@ -65,9 +66,9 @@ prefixRow row day rating = first (check true (ratingGood rating) 6) (check (pref
 unfoldable pub cardScore : (row : ℕ) (weight label : Float) → ℕ
 cardScore row weight label = first (check (later row) (weightGood weight) 8) (check (cardLabel row weight) (labelGood label) 8)
 
-unfoldable pub cardRow : (n row : ℕ) (day rating weight label : Float) → ℕ
-cardRow n row day rating weight label =
-    first (check (cardRating n row) (ratingGood rating) 6) (first (check (cardDay n row rating weight) (dayGood day) 7) (cardScore row weight label))
+unfoldable pub cardRow : (end last : Bool) (row : ℕ) (day rating weight label : Float) → ℕ
+cardRow end last row day rating weight label =
+    first (check (cardRating end last) (ratingGood rating) 6) (first (check (cardDay last row rating weight) (dayGood day) 7) (cardScore row weight label))
 
 -- 'then a prefix target (weight, label, day)': 'its label and day only if that weight is not 0'
 unfoldable pub targetDef : (weight label day : Float) → ℕ

@@ -2,10 +2,8 @@
 // order rating, day, weight, label. A cell that is not read is not asked about.
 ghost use mathlib.Core.Path.{_≡_};
 ghost use mathlib.Core.Bool.{not, cond};
-ghost use lib.Ieee.{eq};
-ghost use Rattle.domain.specs.Limits.{zero32};
-ghost use Rattle.checks.specs.Reads.{ratingGood, weightGood, labelGood, later, isLast, nonZero, prefixDay};
-ghost use Rattle.checks.specs.Reads.{cardDay, cardLabel, check, first, prefixRow, cardScore, cardRow, targetDef};
+ghost use Rattle.checks.specs.Reads.{ratingGood, weightGood, labelGood, later, isLast, nonZero};
+ghost use Rattle.checks.specs.Reads.{cardDay, check, first, prefixRow, cardScore, cardRow, targetDef};
 use domain::floats::is_within;
 use domain::limits::is_day;
 use soft::flags::both;
@@ -40,14 +38,14 @@ fn is_later(row: u32) -> bool
 }
 
 // Row + 1 is the length.
-fn is_last(n: u32, row: u32) -> bool
+pub(crate) fn is_last(n: u32, row: u32) -> bool
     ensures { λ r. ⌜ r ≡ isLast n row ⌝ }
 {
     row as u64 + 1 == n as u64
 }
 
 // A rating or a weight that is not zero, of either sign; a NaN is not.
-fn is_nonzero(x: f32) -> bool
+pub(crate) fn is_nonzero(x: f32) -> bool
     ensures { λ r. ⌜ r ≡ nonZero x ⌝ }
 {
     !(x == 0.0)
@@ -83,13 +81,13 @@ pub(crate) fn prefix_row(row: u32, day: f32, rating: f32) -> u32
     )
 }
 
-// The last row's day is read if its weight counts, and its rating never.
-fn card_day(n: u32, row: u32, rating: f32, weight: f32) -> bool
-    ensures { λ r. ⌜ r ≡ cardDay n row rating weight ⌝ }
+// The last row's day is read if its weight is not 0.
+fn card_day(last: bool, row: u32, rating: f32, weight: f32) -> bool
+    ensures { λ r. ⌜ r ≡ cardDay last row rating weight ⌝ }
 {
     both(
         is_later(row),
-        pick(is_last(n, row), is_nonzero(weight), is_nonzero(rating)),
+        pick(last, is_nonzero(weight), is_nonzero(rating)),
     )
 }
 
@@ -104,12 +102,20 @@ fn card_score(row: u32, weight: f32, label: f32) -> u32
     )
 }
 
-// 6, 7, 8 or 0, in a card of n rows.
-pub(crate) fn card_row(n: u32, row: u32, day: f32, rating: f32, weight: f32, label: f32) -> u32
-    ensures { λ r. ⌜ r ≡ cardRow n row day rating weight label ⌝ }
+// 6, 7, 8 or 0. The last rating is read only where histories stand at the end.
+pub(crate) fn card_row(
+    end: bool,
+    last: bool,
+    row: u32,
+    day: f32,
+    rating: f32,
+    weight: f32,
+    label: f32,
+) -> u32
+    ensures { λ r. ⌜ r ≡ cardRow end last row day rating weight label ⌝ }
 {
-    let rating_bad = check(!is_last(n, row), is_rating(rating), 6);
-    let day_bad = check(card_day(n, row, rating, weight), is_day(day), 7);
+    let rating_bad = check(either(end, !last), is_rating(rating), 6);
+    let day_bad = check(card_day(last, row, rating, weight), is_day(day), 7);
     first(rating_bad, first(day_bad, card_score(row, weight, label)))
 }
 

@@ -1,8 +1,9 @@
 // The number that a loss call is refused with, 0 where it is accepted. All is checked before the first write: sizes, then the
 // cells that the call reads. A call for the loss alone is lent neither slots nor room, so that 5 and 4 are not asked of it.
 ghost use mathlib.Core.Path.{_≡_};
-ghost use Rattle.checks.specs.Batch.{prefixesOf, cardsOf};
+ghost use Rattle.checks.specs.Batch.{prefixesIn, cardsIn};
 ghost use Rattle.checks.specs.Refusals.{prefixLossRefusal, prefixGradRefusal, cardLossRefusal, cardGradRefusal};
+use crate::align::Align;
 use crate::faults::card::card_fault;
 use crate::faults::prefix::prefix_fault;
 use crate::sizes::card_sized;
@@ -13,6 +14,7 @@ use soft::flags::both;
 
 // 1, 2, 5, 3, 4, then the first fault. The last arguments count what is lent.
 pub fn prefix_grad_refusal(
+    align: Align,
     w: &[f32],
     t_hist: &[f32],
     r_hist: &[f32],
@@ -26,7 +28,7 @@ pub fn prefix_grad_refusal(
     records: usize,
 ) -> u32
     ensures { λ r. ⌜
-        r ≡ prefixGradRefusal (now (w .entry)) (prefixesOf (now («t_hist» .entry)) (now («r_hist» .entry)) «seq_len» batch
+        r ≡ prefixGradRefusal (now (w .entry)) (prefixesIn align (now («t_hist» .entry)) (now («r_hist» .entry)) «seq_len» batch
         (now («seq_lens» .entry)) (now («delta_ts» .entry)) (now (labels .entry)) (now (weights .entry))) slots records ⌝ }
 {
     let n = weights_refusal(w);
@@ -54,6 +56,7 @@ pub fn prefix_grad_refusal(
         return 4;
     }
     let f = prefix_fault(
+        align,
         t_hist,
         r_hist,
         seq_len,
@@ -68,6 +71,7 @@ pub fn prefix_grad_refusal(
 
 // 1, 2, 3, then the first fault.
 pub fn prefix_loss_refusal(
+    align: Align,
     w: &[f32],
     t_hist: &[f32],
     r_hist: &[f32],
@@ -79,7 +83,7 @@ pub fn prefix_loss_refusal(
     weights: &[f32],
 ) -> u32
     ensures { λ r. ⌜
-        r ≡ prefixLossRefusal (now (w .entry)) (prefixesOf (now («t_hist» .entry)) (now («r_hist» .entry)) «seq_len» batch
+        r ≡ prefixLossRefusal (now (w .entry)) (prefixesIn align (now («t_hist» .entry)) (now («r_hist» .entry)) «seq_len» batch
         (now («seq_lens» .entry)) (now («delta_ts» .entry)) (now (labels .entry)) (now (weights .entry))) ⌝ }
 {
     let n = weights_refusal(w);
@@ -100,6 +104,7 @@ pub fn prefix_loss_refusal(
         return 3;
     }
     let f = prefix_fault(
+        align,
         t_hist,
         r_hist,
         seq_len,
@@ -114,6 +119,7 @@ pub fn prefix_loss_refusal(
 
 // 1, 2, 5, 3, 4, then the first fault. The last arguments count what is lent.
 pub fn card_grad_refusal(
+    align: Align,
     w: &[f32],
     t_hist: &[f32],
     r_hist: &[f32],
@@ -127,7 +133,7 @@ pub fn card_grad_refusal(
     step_grads: usize,
 ) -> u32
     ensures { λ r. ⌜
-        r ≡ cardGradRefusal (now (w .entry)) (cardsOf (now («t_hist» .entry)) (now («r_hist» .entry)) «seq_len» batch
+        r ≡ cardGradRefusal (now (w .entry)) (cardsIn align (now («t_hist» .entry)) (now («r_hist» .entry)) «seq_len» batch
         (now («seq_lens» .entry)) (now (labels .entry)) (now (weights .entry))) slots records «step_grads» ⌝ }
 {
     let n = weights_refusal(w);
@@ -153,12 +159,22 @@ pub fn card_grad_refusal(
     if !both(long <= records, long <= step_grads) {
         return 4;
     }
-    let f = card_fault(t_hist, r_hist, seq_len, batch, seq_lens, labels, weights);
+    let f = card_fault(
+        align,
+        t_hist,
+        r_hist,
+        seq_len,
+        batch,
+        seq_lens,
+        labels,
+        weights,
+    );
     f.refusal
 }
 
 // 1, 2, 3, then the first fault.
 pub fn card_loss_refusal(
+    align: Align,
     w: &[f32],
     t_hist: &[f32],
     r_hist: &[f32],
@@ -169,7 +185,7 @@ pub fn card_loss_refusal(
     weights: &[f32],
 ) -> u32
     ensures { λ r. ⌜
-        r ≡ cardLossRefusal (now (w .entry)) (cardsOf (now («t_hist» .entry)) (now («r_hist» .entry)) «seq_len» batch
+        r ≡ cardLossRefusal (now (w .entry)) (cardsIn align (now («t_hist» .entry)) (now («r_hist» .entry)) «seq_len» batch
         (now («seq_lens» .entry)) (now (labels .entry)) (now (weights .entry))) ⌝ }
 {
     let n = weights_refusal(w);
@@ -188,6 +204,15 @@ pub fn card_loss_refusal(
     if !sized {
         return 3;
     }
-    let f = card_fault(t_hist, r_hist, seq_len, batch, seq_lens, labels, weights);
+    let f = card_fault(
+        align,
+        t_hist,
+        r_hist,
+        seq_len,
+        batch,
+        seq_lens,
+        labels,
+        weights,
+    );
     f.refusal
 }

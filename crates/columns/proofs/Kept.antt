@@ -2,7 +2,7 @@
 use Prim.Native.Nat.{ℕ, zero, suc, _≤_, _<_}
 use mathlib.Core.Bool.{Bool, true, false}
 use mathlib.Core.List.{List}
-use mathlib.Core.Path.{_≡_, refl, sym, ap, _∙_, subst}
+use mathlib.Core.Path.{_≡_, refl, sym, _∙_, subst}
 use native.Mathlib.Nat.{le-refl, le-of-lt, lt-of-lt-of-le, ne-of-lt, not-suc-le-zero}
 use native.Mathlib.Omega.{arith}
 use borrow.Author.Tests.{leb-true, leb-false}
@@ -17,10 +17,9 @@ use Rattle.forward.specs.declared.state.StepRecord.{StepRecord}
 use Rattle.columns.specs.Records.{roomDef, storeDef, loadDef}
 use Rattle.columns.proofs.records.ReadBack.{step-read}
 use Rattle.columns.proofs.records.Stored.{stored-length, stored-read, others-kept}
-use Rattle.backward.specs.Step.{stepGrad, stepMoved}
 use Rattle.backward.specs.declared.step.StateGrad.{StateGrad}
 use Rattle.columns.specs.BackwardPass.{backDef}
-use Rattle.columns.specs.ForwardPass.{stepAt, stateAt, recordAt, storedDef, scoreAt, gradsDef}
+use Rattle.columns.specs.ForwardPass.{stepAt, recordAt, storedDef, scoreAt, gradsDef}
 
 module _ (p : RuntimeParams) (hist : History) where
   pub path-length : (n : ℕ) (xs : List Float) → length (storedDef p hist n xs) ≡ length xs
@@ -31,7 +30,7 @@ module _ (p : RuntimeParams) (hist : History) where
   record-read : (row : ℕ) (xs : List Float) → row < roomDef (length xs) →
       loadDef row (storeDef row (recordAt p hist row) xs) ≡ recordAt p hist row
   unfolding recordAt stepAt
-  record-read row xs l = stored-read row _ xs l ∙ step-read p _ _ _ row
+  record-read row xs l = stored-read row _ xs l ∙ step-read p _ _ _ _
 
   room-kept : (n k : ℕ) (xs : List Float) → k < roomDef (length xs) → k < roomDef (length (storedDef p hist n xs))
   room-kept n k xs h = subst (λ (m : ℕ). k < roomDef m) (sym (path-length n xs)) h

@@ -1,2 +1,3 @@
+pub mod Before
 pub mod Kept
 pub mod Turns

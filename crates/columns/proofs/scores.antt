@@ -3,3 +3,4 @@ pub mod Settled
 pub mod Zeros
 pub mod Logs
 pub mod Labels
+pub mod Weightless

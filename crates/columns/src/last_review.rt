@@ -51,7 +51,7 @@ pub fn target_end(
     Ending { loss, g_s }
 }
 
-// A card's last row, after `loss`. Row 0 has nothing to score.
+// A card's last row, after `loss`; `row` is its number from the first review. Row 0 has nothing to score.
 pub fn last_loss(
     p: RuntimeParams,
     row: u32,

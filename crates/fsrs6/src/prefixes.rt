@@ -1,11 +1,16 @@
-// The loss of a batch of prefixes: alone, and with its gradient.
+// The loss of a batch of prefixes: alone, and with its gradient. `end` says that histories stand at the end of
+// their tables, behind padding.
 ghost use Rattle.analytic_v6.specs.Prefixes.{batchLoss, batchLossAndGrad, BatchLeaves};
-ghost use Rattle.checks.specs.Batch.{prefixesOf};
+ghost use Rattle.checks.specs.Align.{alignOf};
+ghost use Rattle.checks.specs.Batch.{prefixesOf, prefixesIn};
 ghost use Rattle.fsrs6.specs.Places.{Answered};
 ghost use lib.ListN.{length};
 use crate::places::put_f64;
 use analytic_v6::prefixes::grad::batch_loss_and_grad;
+use analytic_v6::prefixes::grad::batch_loss_and_grad_in;
 use analytic_v6::prefixes::loss::batch_loss;
+use analytic_v6::prefixes::loss::batch_loss_in;
+use checks::align::align_of;
 
 #[no_mangle]
 pub extern "C" fn fsrs_batch_loss(
@@ -77,4 +82,80 @@ pub extern "C" fn fsrs_batch_loss_and_grad(
     );
     put_f64(loss, graded.refusal, graded.loss);
     graded.refusal
+}
+
+#[no_mangle]
+pub extern "C" fn fsrs_batch_loss_in(
+    end: bool,
+    w: &[f32],
+    t_hist: &[f32],
+    r_hist: &[f32],
+    seq_len: u32,
+    batch: u32,
+    seq_lens: &[u32],
+    delta_ts: &[f32],
+    labels: &[f32],
+    weights: &[f32],
+    loss: &mut f64,
+) -> u32
+    ensures { λ n. ⌜
+        Answered (batchLoss (now (w .entry)) (prefixesIn (alignOf end) (now («t_hist» .entry)) (now («r_hist» .entry)) «seq_len» batch
+        (now («seq_lens» .entry)) (now («delta_ts» .entry)) (now (labels .entry)) (now (weights .entry)))) n
+        (now (loss .entry)) (now (loss .exit)) ⌝ }
+{
+    let a = batch_loss_in(
+        align_of(end),
+        w,
+        t_hist,
+        r_hist,
+        seq_len,
+        batch,
+        seq_lens,
+        delta_ts,
+        labels,
+        weights,
+    );
+    put_f64(loss, a.refusal, a.loss);
+    a.refusal
+}
+
+#[no_mangle]
+pub extern "C" fn fsrs_batch_loss_and_grad_in(
+    end: bool,
+    w: &[f32],
+    t_hist: &[f32],
+    r_hist: &[f32],
+    seq_len: u32,
+    batch: u32,
+    seq_lens: &[u32],
+    delta_ts: &[f32],
+    labels: &[f32],
+    weights: &[f32],
+    gw: &mut [f64],
+    records: &mut [f32],
+    loss: &mut f64,
+) -> u32
+    ensures { λ n. ⌜
+        (let x = prefixesIn (alignOf end) (now («t_hist» .entry)) (now («r_hist» .entry)) «seq_len» batch (now («seq_lens» .entry))
+        (now («delta_ts» .entry)) (now (labels .entry)) (now (weights .entry)) in
+        Answered (batchLossAndGrad (now (w .entry)) x (length (now (gw .entry))) (length (now (records .entry)))) n
+        (now (loss .entry)) (now (loss .exit)) ×
+        BatchLeaves (now (w .entry)) x (now (gw .entry)) (now (records .entry)) (now (gw .exit)) (now (records .exit))) ⌝ }
+{
+    let a = batch_loss_and_grad_in(
+        align_of(end),
+        w,
+        t_hist,
+        r_hist,
+        seq_len,
+        batch,
+        seq_lens,
+        delta_ts,
+        labels,
+        weights,
+        gw,
+        records,
+    );
+    put_f64(loss, a.refusal, a.loss);
+    a.refusal
 }

@@ -27,9 +27,13 @@ use Rattle.fsrs6.proofs.study.fsrs_next_difficulty
 use Rattle.fsrs6.proofs.step.fsrs_training_step
 use Rattle.fsrs6.proofs.step.fsrs_training_step_backward
 use Rattle.fsrs6.proofs.prefixes.fsrs_batch_loss_and_grad
+use Rattle.fsrs6.proofs.prefixes.fsrs_batch_loss_and_grad_in
 use Rattle.fsrs6.proofs.prefixes.fsrs_batch_loss
+use Rattle.fsrs6.proofs.prefixes.fsrs_batch_loss_in
 use Rattle.fsrs6.proofs.cards.fsrs_card_loss_and_grad
+use Rattle.fsrs6.proofs.cards.fsrs_card_loss_and_grad_in
 use Rattle.fsrs6.proofs.cards.fsrs_card_loss
+use Rattle.fsrs6.proofs.cards.fsrs_card_loss_in
 use Rattle.fsrs6.proofs.file.fsrs_batch_file
 
 -- fsrs6::arithmetic
@@ -116,15 +120,27 @@ one-fsrs-training-step-backward = one (λ κs a o c. c .0 ⨾ none ⨾ none ⨾ 
 pub one-fsrs-batch-loss-and-grad : One fsrs_batch_loss_and_grad.Kinds.ps fsrs_batch_loss_and_grad.Kinds.r fsrs_batch_loss_and_grad.Reads.Post
 one-fsrs-batch-loss-and-grad = one (λ κs a o c. c .0 .0 ⨾ none ⨾ none ⨾ none ⨾ none ⨾ none ⨾ none ⨾ none ⨾ none ⨾ none ⨾ c .1 .0 ⨾ c .1 .1 ⨾ c .0 .1 ⨾ end)
 
+pub one-fsrs-batch-loss-and-grad-in : One fsrs_batch_loss_and_grad_in.Kinds.ps fsrs_batch_loss_and_grad_in.Kinds.r fsrs_batch_loss_and_grad_in.Reads.Post
+one-fsrs-batch-loss-and-grad-in = one (λ κs a o c. c .0 .0 ⨾ none ⨾ none ⨾ none ⨾ none ⨾ none ⨾ none ⨾ none ⨾ none ⨾ none ⨾ none ⨾ c .1 .0 ⨾ c .1 .1 ⨾ c .0 .1 ⨾ end)
+
 pub one-fsrs-batch-loss : One fsrs_batch_loss.Kinds.ps fsrs_batch_loss.Kinds.r fsrs_batch_loss.Reads.Post
 one-fsrs-batch-loss = one (λ κs a o c. c .0 ⨾ none ⨾ none ⨾ none ⨾ none ⨾ none ⨾ none ⨾ none ⨾ none ⨾ none ⨾ c .1 ⨾ end)
+
+pub one-fsrs-batch-loss-in : One fsrs_batch_loss_in.Kinds.ps fsrs_batch_loss_in.Kinds.r fsrs_batch_loss_in.Reads.Post
+one-fsrs-batch-loss-in = one (λ κs a o c. c .0 ⨾ none ⨾ none ⨾ none ⨾ none ⨾ none ⨾ none ⨾ none ⨾ none ⨾ none ⨾ none ⨾ c .1 ⨾ end)
 
 -- fsrs6::cards
 pub one-fsrs-card-loss-and-grad : One fsrs_card_loss_and_grad.Kinds.ps fsrs_card_loss_and_grad.Kinds.r fsrs_card_loss_and_grad.Reads.Post
 one-fsrs-card-loss-and-grad = one (λ κs a o c. c .0 .0 ⨾ none ⨾ none ⨾ none ⨾ none ⨾ none ⨾ none ⨾ none ⨾ none ⨾ c .1 .0 ⨾ c .1 .1 ⨾ c .1 .2 ⨾ c .0 .1 ⨾ end)
 
+pub one-fsrs-card-loss-and-grad-in : One fsrs_card_loss_and_grad_in.Kinds.ps fsrs_card_loss_and_grad_in.Kinds.r fsrs_card_loss_and_grad_in.Reads.Post
+one-fsrs-card-loss-and-grad-in = one (λ κs a o c. c .0 .0 ⨾ none ⨾ none ⨾ none ⨾ none ⨾ none ⨾ none ⨾ none ⨾ none ⨾ none ⨾ c .1 .0 ⨾ c .1 .1 ⨾ c .1 .2 ⨾ c .0 .1 ⨾ end)
+
 pub one-fsrs-card-loss : One fsrs_card_loss.Kinds.ps fsrs_card_loss.Kinds.r fsrs_card_loss.Reads.Post
 one-fsrs-card-loss = one (λ κs a o c. c .0 ⨾ none ⨾ none ⨾ none ⨾ none ⨾ none ⨾ none ⨾ none ⨾ none ⨾ c .1 ⨾ end)
+
+pub one-fsrs-card-loss-in : One fsrs_card_loss_in.Kinds.ps fsrs_card_loss_in.Kinds.r fsrs_card_loss_in.Reads.Post
+one-fsrs-card-loss-in = one (λ κs a o c. c .0 ⨾ none ⨾ none ⨾ none ⨾ none ⨾ none ⨾ none ⨾ none ⨾ none ⨾ none ⨾ c .1 ⨾ end)
 
 -- fsrs6::file
 pub one-fsrs-batch-file : One fsrs_batch_file.Kinds.ps fsrs_batch_file.Kinds.r fsrs_batch_file.Reads.Post

@@ -1,11 +1,13 @@
 -- Demand 1: a refused call leaves each lent slice and place as it was. A line for each function that lends by `&mut` and can refuse. Assumes nothing.
-use mathlib.Core.Path.{refl, ap, _∙_}
+use mathlib.Core.Path.{ap, _∙_}
 use Rattle.outcomes.specs.Outcome.{Kept, keeps}
 use Rattle.outcomes.proofs.Tuples.{_⨾_, end, still, back}
 use Rattle.outcomes.proofs.Refused.{refused}
 use Rattle.analytic_v6.proofs.step.training_step_backward
 use Rattle.analytic_v6.proofs.prefixes.grad.batch_loss_and_grad
+use Rattle.analytic_v6.proofs.prefixes.grad.batch_loss_and_grad_in
 use Rattle.analytic_v6.proofs.cards.grad.card_loss_and_grad
+use Rattle.analytic_v6.proofs.cards.grad.card_loss_and_grad_in
 use Rattle.batch.proofs.run_file
 use Rattle.fsrs6.proofs.study.fsrs_power_forgetting_curve
 use Rattle.fsrs6.proofs.study.fsrs_next_interval
@@ -22,9 +24,13 @@ use Rattle.fsrs6.proofs.study.fsrs_next_difficulty
 use Rattle.fsrs6.proofs.step.fsrs_training_step
 use Rattle.fsrs6.proofs.step.fsrs_training_step_backward
 use Rattle.fsrs6.proofs.prefixes.fsrs_batch_loss_and_grad
+use Rattle.fsrs6.proofs.prefixes.fsrs_batch_loss_and_grad_in
 use Rattle.fsrs6.proofs.prefixes.fsrs_batch_loss
+use Rattle.fsrs6.proofs.prefixes.fsrs_batch_loss_in
 use Rattle.fsrs6.proofs.cards.fsrs_card_loss_and_grad
+use Rattle.fsrs6.proofs.cards.fsrs_card_loss_and_grad_in
 use Rattle.fsrs6.proofs.cards.fsrs_card_loss
+use Rattle.fsrs6.proofs.cards.fsrs_card_loss_in
 use Rattle.fsrs6.proofs.file.fsrs_batch_file
 
 -- These lend by `&mut` and have no refusal: what each leaves is stated by its contract, for every call.
@@ -41,9 +47,15 @@ kept-training-step-backward = keeps (λ κs a o c. ap (λ z. z .refusal) (c .0))
 pub kept-batch-loss-and-grad : Kept batch_loss_and_grad.Kinds.ps batch_loss_and_grad.Kinds.r (λ κs a z. z .refusal) (λ κs e. e) batch_loss_and_grad.Reads.Post
 kept-batch-loss-and-grad = keeps (λ κs a o c. ap (λ z. z .refusal) (c .0)) (λ κs a o c h. still ⨾ still ⨾ still ⨾ still ⨾ still ⨾ still ⨾ still ⨾ still ⨾ still ⨾ back (c .1 .0 ∙ search refused) ⨾ back (c .1 .1 ∙ search refused) ⨾ end)
 
+pub kept-batch-loss-and-grad-in : Kept batch_loss_and_grad_in.Kinds.ps batch_loss_and_grad_in.Kinds.r (λ κs a z. z .refusal) (λ κs e. e) batch_loss_and_grad_in.Reads.Post
+kept-batch-loss-and-grad-in = keeps (λ κs a o c. ap (λ z. z .refusal) (c .0)) (λ κs a o c h. still ⨾ still ⨾ still ⨾ still ⨾ still ⨾ still ⨾ still ⨾ still ⨾ still ⨾ still ⨾ back (c .1 .0 ∙ search refused) ⨾ back (c .1 .1 ∙ search refused) ⨾ end)
+
 -- analytic_v6::cards::grad
 pub kept-card-loss-and-grad : Kept card_loss_and_grad.Kinds.ps card_loss_and_grad.Kinds.r (λ κs a z. z .refusal) (λ κs e. e) card_loss_and_grad.Reads.Post
 kept-card-loss-and-grad = keeps (λ κs a o c. ap (λ z. z .refusal) (c .0)) (λ κs a o c h. still ⨾ still ⨾ still ⨾ still ⨾ still ⨾ still ⨾ still ⨾ still ⨾ back (c .1 .0 ∙ search refused) ⨾ back (c .1 .1 ∙ search refused) ⨾ back (c .1 .2 ∙ search refused) ⨾ end)
+
+pub kept-card-loss-and-grad-in : Kept card_loss_and_grad_in.Kinds.ps card_loss_and_grad_in.Kinds.r (λ κs a z. z .refusal) (λ κs e. e) card_loss_and_grad_in.Reads.Post
+kept-card-loss-and-grad-in = keeps (λ κs a o c. ap (λ z. z .refusal) (c .0)) (λ κs a o c h. still ⨾ still ⨾ still ⨾ still ⨾ still ⨾ still ⨾ still ⨾ still ⨾ still ⨾ back (c .1 .0 ∙ search refused) ⨾ back (c .1 .1 ∙ search refused) ⨾ back (c .1 .2 ∙ search refused) ⨾ end)
 
 -- batch
 pub kept-run-file : Kept run_file.Kinds.ps run_file.Kinds.r (λ κs a z. z .refusal) (λ κs e. e) run_file.Reads.Post
@@ -99,15 +111,27 @@ kept-fsrs-training-step-backward = keeps (λ κs a o c. c .0) (λ κs a o c h. s
 pub kept-fsrs-batch-loss-and-grad : Kept fsrs_batch_loss_and_grad.Kinds.ps fsrs_batch_loss_and_grad.Kinds.r (λ κs a n. n) (λ κs e. e) fsrs_batch_loss_and_grad.Reads.Post
 kept-fsrs-batch-loss-and-grad = keeps (λ κs a o c. c .0 .0) (λ κs a o c h. still ⨾ still ⨾ still ⨾ still ⨾ still ⨾ still ⨾ still ⨾ still ⨾ still ⨾ back (c .1 .0 ∙ search refused) ⨾ back (c .1 .1 ∙ search refused) ⨾ back (c .0 .1 ∙ search refused) ⨾ end)
 
+pub kept-fsrs-batch-loss-and-grad-in : Kept fsrs_batch_loss_and_grad_in.Kinds.ps fsrs_batch_loss_and_grad_in.Kinds.r (λ κs a n. n) (λ κs e. e) fsrs_batch_loss_and_grad_in.Reads.Post
+kept-fsrs-batch-loss-and-grad-in = keeps (λ κs a o c. c .0 .0) (λ κs a o c h. still ⨾ still ⨾ still ⨾ still ⨾ still ⨾ still ⨾ still ⨾ still ⨾ still ⨾ still ⨾ back (c .1 .0 ∙ search refused) ⨾ back (c .1 .1 ∙ search refused) ⨾ back (c .0 .1 ∙ search refused) ⨾ end)
+
 pub kept-fsrs-batch-loss : Kept fsrs_batch_loss.Kinds.ps fsrs_batch_loss.Kinds.r (λ κs a n. n) (λ κs e. e) fsrs_batch_loss.Reads.Post
 kept-fsrs-batch-loss = keeps (λ κs a o c. c .0) (λ κs a o c h. still ⨾ still ⨾ still ⨾ still ⨾ still ⨾ still ⨾ still ⨾ still ⨾ still ⨾ back (c .1 ∙ search refused) ⨾ end)
+
+pub kept-fsrs-batch-loss-in : Kept fsrs_batch_loss_in.Kinds.ps fsrs_batch_loss_in.Kinds.r (λ κs a n. n) (λ κs e. e) fsrs_batch_loss_in.Reads.Post
+kept-fsrs-batch-loss-in = keeps (λ κs a o c. c .0) (λ κs a o c h. still ⨾ still ⨾ still ⨾ still ⨾ still ⨾ still ⨾ still ⨾ still ⨾ still ⨾ still ⨾ back (c .1 ∙ search refused) ⨾ end)
 
 -- fsrs6::cards
 pub kept-fsrs-card-loss-and-grad : Kept fsrs_card_loss_and_grad.Kinds.ps fsrs_card_loss_and_grad.Kinds.r (λ κs a n. n) (λ κs e. e) fsrs_card_loss_and_grad.Reads.Post
 kept-fsrs-card-loss-and-grad = keeps (λ κs a o c. c .0 .0) (λ κs a o c h. still ⨾ still ⨾ still ⨾ still ⨾ still ⨾ still ⨾ still ⨾ still ⨾ back (c .1 .0 ∙ search refused) ⨾ back (c .1 .1 ∙ search refused) ⨾ back (c .1 .2 ∙ search refused) ⨾ back (c .0 .1 ∙ search refused) ⨾ end)
 
+pub kept-fsrs-card-loss-and-grad-in : Kept fsrs_card_loss_and_grad_in.Kinds.ps fsrs_card_loss_and_grad_in.Kinds.r (λ κs a n. n) (λ κs e. e) fsrs_card_loss_and_grad_in.Reads.Post
+kept-fsrs-card-loss-and-grad-in = keeps (λ κs a o c. c .0 .0) (λ κs a o c h. still ⨾ still ⨾ still ⨾ still ⨾ still ⨾ still ⨾ still ⨾ still ⨾ still ⨾ back (c .1 .0 ∙ search refused) ⨾ back (c .1 .1 ∙ search refused) ⨾ back (c .1 .2 ∙ search refused) ⨾ back (c .0 .1 ∙ search refused) ⨾ end)
+
 pub kept-fsrs-card-loss : Kept fsrs_card_loss.Kinds.ps fsrs_card_loss.Kinds.r (λ κs a n. n) (λ κs e. e) fsrs_card_loss.Reads.Post
 kept-fsrs-card-loss = keeps (λ κs a o c. c .0) (λ κs a o c h. still ⨾ still ⨾ still ⨾ still ⨾ still ⨾ still ⨾ still ⨾ still ⨾ back (c .1 ∙ search refused) ⨾ end)
+
+pub kept-fsrs-card-loss-in : Kept fsrs_card_loss_in.Kinds.ps fsrs_card_loss_in.Kinds.r (λ κs a n. n) (λ κs e. e) fsrs_card_loss_in.Reads.Post
+kept-fsrs-card-loss-in = keeps (λ κs a o c. c .0) (λ κs a o c h. still ⨾ still ⨾ still ⨾ still ⨾ still ⨾ still ⨾ still ⨾ still ⨾ still ⨾ back (c .1 ∙ search refused) ⨾ end)
 
 -- fsrs6::file
 pub kept-fsrs-batch-file : Kept fsrs_batch_file.Kinds.ps fsrs_batch_file.Kinds.r (λ κs a n. n) (λ κs e. e) fsrs_batch_file.Reads.Post

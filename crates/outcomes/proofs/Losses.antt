@@ -2,6 +2,12 @@
 use Rattle.outcomes.specs.Outcome.{One, one}
 use Rattle.outcomes.proofs.Tuples.{_⨾_, none, end}
 use Rattle.soft.proofs.flags.either
+use Rattle.checks.proofs.align.align_of
+use Rattle.checks.proofs.align.first_review
+use Rattle.checks.proofs.align.row_from
+use Rattle.checks.proofs.align.counts_at
+use Rattle.checks.proofs.align.weight_at
+use Rattle.checks.proofs.align.target_weight
 use Rattle.checks.proofs.reads.is_rating
 use Rattle.checks.proofs.tables.cell_of
 use Rattle.checks.proofs.tables.read
@@ -25,9 +31,13 @@ use Rattle.columns.proofs.forward_pass.card_forward
 use Rattle.columns.proofs.forward_pass.card_forward_recorded
 use Rattle.columns.proofs.forward_pass.prefix_forward_recorded
 use Rattle.analytic_v6.proofs.prefixes.grad.batch_loss_and_grad
+use Rattle.analytic_v6.proofs.prefixes.grad.batch_loss_and_grad_in
 use Rattle.analytic_v6.proofs.prefixes.loss.batch_loss
+use Rattle.analytic_v6.proofs.prefixes.loss.batch_loss_in
 use Rattle.analytic_v6.proofs.cards.grad.card_loss_and_grad
+use Rattle.analytic_v6.proofs.cards.grad.card_loss_and_grad_in
 use Rattle.analytic_v6.proofs.cards.loss.card_loss
+use Rattle.analytic_v6.proofs.cards.loss.card_loss_in
 use Rattle.batch.proofs.run_file
 
 -- soft::flags
@@ -37,6 +47,25 @@ one-either = one (λ κs a o c. c ⨾ none ⨾ none ⨾ end)
 -- checks::reads
 pub one-is-rating : One is_rating.Kinds.ps is_rating.Kinds.r is_rating.Reads.Post
 one-is-rating = one (λ κs a o c. c ⨾ none ⨾ end)
+
+-- checks::align
+pub one-align-of : One align_of.Kinds.ps align_of.Kinds.r align_of.Reads.Post
+one-align-of = one (λ κs a o c. c ⨾ none ⨾ end)
+
+pub one-first-review : One first_review.Kinds.ps first_review.Kinds.r first_review.Reads.Post
+one-first-review = one (λ κs a o c. c ⨾ none ⨾ none ⨾ none ⨾ none ⨾ none ⨾ end)
+
+pub one-row-from : One row_from.Kinds.ps row_from.Kinds.r row_from.Reads.Post
+one-row-from = one (λ κs a o c. c ⨾ none ⨾ none ⨾ end)
+
+pub one-counts-at : One counts_at.Kinds.ps counts_at.Kinds.r counts_at.Reads.Post
+one-counts-at = one (λ κs a o c. c ⨾ none ⨾ none ⨾ none ⨾ end)
+
+pub one-weight-at : One weight_at.Kinds.ps weight_at.Kinds.r weight_at.Reads.Post
+one-weight-at = one (λ κs a o c. c ⨾ none ⨾ none ⨾ none ⨾ none ⨾ end)
+
+pub one-target-weight : One target_weight.Kinds.ps target_weight.Kinds.r target_weight.Reads.Post
+one-target-weight = one (λ κs a o c. c ⨾ none ⨾ none ⨾ none ⨾ none ⨾ end)
 
 -- checks::tables
 pub one-cell-of : One cell_of.Kinds.ps cell_of.Kinds.r cell_of.Reads.Post
@@ -59,16 +88,16 @@ one-cut-length = one (λ κs a o c. c ⨾ none ⨾ none ⨾ none ⨾ end)
 
 -- checks::refusals
 pub one-card-grad-refusal : One card_grad_refusal.Kinds.ps card_grad_refusal.Kinds.r card_grad_refusal.Reads.Post
-one-card-grad-refusal = one (λ κs a o c. c ⨾ none ⨾ none ⨾ none ⨾ none ⨾ none ⨾ none ⨾ none ⨾ none ⨾ none ⨾ none ⨾ none ⨾ end)
+one-card-grad-refusal = one (λ κs a o c. c ⨾ none ⨾ none ⨾ none ⨾ none ⨾ none ⨾ none ⨾ none ⨾ none ⨾ none ⨾ none ⨾ none ⨾ none ⨾ end)
 
 pub one-card-loss-refusal : One card_loss_refusal.Kinds.ps card_loss_refusal.Kinds.r card_loss_refusal.Reads.Post
-one-card-loss-refusal = one (λ κs a o c. c ⨾ none ⨾ none ⨾ none ⨾ none ⨾ none ⨾ none ⨾ none ⨾ none ⨾ end)
+one-card-loss-refusal = one (λ κs a o c. c ⨾ none ⨾ none ⨾ none ⨾ none ⨾ none ⨾ none ⨾ none ⨾ none ⨾ none ⨾ end)
 
 pub one-prefix-grad-refusal : One prefix_grad_refusal.Kinds.ps prefix_grad_refusal.Kinds.r prefix_grad_refusal.Reads.Post
-one-prefix-grad-refusal = one (λ κs a o c. c ⨾ none ⨾ none ⨾ none ⨾ none ⨾ none ⨾ none ⨾ none ⨾ none ⨾ none ⨾ none ⨾ none ⨾ end)
+one-prefix-grad-refusal = one (λ κs a o c. c ⨾ none ⨾ none ⨾ none ⨾ none ⨾ none ⨾ none ⨾ none ⨾ none ⨾ none ⨾ none ⨾ none ⨾ none ⨾ end)
 
 pub one-prefix-loss-refusal : One prefix_loss_refusal.Kinds.ps prefix_loss_refusal.Kinds.r prefix_loss_refusal.Reads.Post
-one-prefix-loss-refusal = one (λ κs a o c. c ⨾ none ⨾ none ⨾ none ⨾ none ⨾ none ⨾ none ⨾ none ⨾ none ⨾ none ⨾ end)
+one-prefix-loss-refusal = one (λ κs a o c. c ⨾ none ⨾ none ⨾ none ⨾ none ⨾ none ⨾ none ⨾ none ⨾ none ⨾ none ⨾ none ⨾ end)
 
 -- columns::records
 pub one-room : One room.Kinds.ps room.Kinds.r room.Reads.Post
@@ -96,34 +125,46 @@ one-column-backward = one (λ κs a o c. none ⨾ none ⨾ none ⨾ none ⨾ non
 
 -- columns::forward_pass
 pub one-prefix-forward : One prefix_forward.Kinds.ps prefix_forward.Kinds.r prefix_forward.Reads.Post
-one-prefix-forward = one (λ κs a o c. c ⨾ none ⨾ none ⨾ none ⨾ none ⨾ none ⨾ none ⨾ end)
+one-prefix-forward = one (λ κs a o c. c ⨾ none ⨾ none ⨾ none ⨾ none ⨾ none ⨾ none ⨾ none ⨾ end)
 
 pub one-card-forward : One card_forward.Kinds.ps card_forward.Kinds.r card_forward.Reads.Post
-one-card-forward = one (λ κs a o c. c ⨾ none ⨾ none ⨾ none ⨾ none ⨾ none ⨾ none ⨾ none ⨾ none ⨾ end)
+one-card-forward = one (λ κs a o c. c ⨾ none ⨾ none ⨾ none ⨾ none ⨾ none ⨾ none ⨾ none ⨾ none ⨾ none ⨾ none ⨾ end)
 
 -- stored_scores
 pub one-card-forward-recorded : One card_forward_recorded.Kinds.ps card_forward_recorded.Kinds.r card_forward_recorded.Reads.Post
-one-card-forward-recorded = one (λ κs a o c. c .0 ⨾ none ⨾ none ⨾ none ⨾ none ⨾ none ⨾ none ⨾ none ⨾ none ⨾ c .1 ⨾ c .2 ⨾ end)
+one-card-forward-recorded = one (λ κs a o c. c .0 ⨾ none ⨾ none ⨾ none ⨾ none ⨾ none ⨾ none ⨾ none ⨾ none ⨾ none ⨾ none ⨾ c .1 ⨾ c .2 ⨾ end)
 
 -- stored_path
 pub one-prefix-forward-recorded : One prefix_forward_recorded.Kinds.ps prefix_forward_recorded.Kinds.r prefix_forward_recorded.Reads.Post
-one-prefix-forward-recorded = one (λ κs a o c. c .0 ⨾ none ⨾ none ⨾ none ⨾ none ⨾ none ⨾ none ⨾ c .1 ⨾ end)
+one-prefix-forward-recorded = one (λ κs a o c. c .0 ⨾ none ⨾ none ⨾ none ⨾ none ⨾ none ⨾ none ⨾ none ⨾ c .1 ⨾ end)
 
 -- analytic_v6::prefixes::grad
 pub one-batch-loss-and-grad : One batch_loss_and_grad.Kinds.ps batch_loss_and_grad.Kinds.r batch_loss_and_grad.Reads.Post
 one-batch-loss-and-grad = one (λ κs a o c. c .0 ⨾ none ⨾ none ⨾ none ⨾ none ⨾ none ⨾ none ⨾ none ⨾ none ⨾ none ⨾ c .1 .0 ⨾ c .1 .1 ⨾ end)
 
+pub one-batch-loss-and-grad-in : One batch_loss_and_grad_in.Kinds.ps batch_loss_and_grad_in.Kinds.r batch_loss_and_grad_in.Reads.Post
+one-batch-loss-and-grad-in = one (λ κs a o c. c .0 ⨾ none ⨾ none ⨾ none ⨾ none ⨾ none ⨾ none ⨾ none ⨾ none ⨾ none ⨾ none ⨾ c .1 .0 ⨾ c .1 .1 ⨾ end)
+
 -- analytic_v6::prefixes::loss
 pub one-batch-loss : One batch_loss.Kinds.ps batch_loss.Kinds.r batch_loss.Reads.Post
 one-batch-loss = one (λ κs a o c. c ⨾ none ⨾ none ⨾ none ⨾ none ⨾ none ⨾ none ⨾ none ⨾ none ⨾ none ⨾ end)
+
+pub one-batch-loss-in : One batch_loss_in.Kinds.ps batch_loss_in.Kinds.r batch_loss_in.Reads.Post
+one-batch-loss-in = one (λ κs a o c. c ⨾ none ⨾ none ⨾ none ⨾ none ⨾ none ⨾ none ⨾ none ⨾ none ⨾ none ⨾ none ⨾ end)
 
 -- analytic_v6::cards::grad
 pub one-card-loss-and-grad : One card_loss_and_grad.Kinds.ps card_loss_and_grad.Kinds.r card_loss_and_grad.Reads.Post
 one-card-loss-and-grad = one (λ κs a o c. c .0 ⨾ none ⨾ none ⨾ none ⨾ none ⨾ none ⨾ none ⨾ none ⨾ none ⨾ c .1 .0 ⨾ c .1 .1 ⨾ c .1 .2 ⨾ end)
 
+pub one-card-loss-and-grad-in : One card_loss_and_grad_in.Kinds.ps card_loss_and_grad_in.Kinds.r card_loss_and_grad_in.Reads.Post
+one-card-loss-and-grad-in = one (λ κs a o c. c .0 ⨾ none ⨾ none ⨾ none ⨾ none ⨾ none ⨾ none ⨾ none ⨾ none ⨾ none ⨾ c .1 .0 ⨾ c .1 .1 ⨾ c .1 .2 ⨾ end)
+
 -- analytic_v6::cards::loss
 pub one-card-loss : One card_loss.Kinds.ps card_loss.Kinds.r card_loss.Reads.Post
 one-card-loss = one (λ κs a o c. c ⨾ none ⨾ none ⨾ none ⨾ none ⨾ none ⨾ none ⨾ none ⨾ none ⨾ end)
+
+pub one-card-loss-in : One card_loss_in.Kinds.ps card_loss_in.Kinds.r card_loss_in.Reads.Post
+one-card-loss-in = one (λ κs a o c. c ⨾ none ⨾ none ⨾ none ⨾ none ⨾ none ⨾ none ⨾ none ⨾ none ⨾ none ⨾ end)
 
 -- batch
 pub one-run-file : One run_file.Kinds.ps run_file.Kinds.r run_file.Reads.Post

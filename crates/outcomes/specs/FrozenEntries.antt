@@ -1,4 +1,4 @@
--- Demand 3 of the four loss entries themselves: said of their own contracts, as `promises` says it of the definitions. Assumes nothing.
+-- Demand 3 of the eight loss entries themselves, with and without the mode: said of their own contracts, as `promises` says it of the definitions. Assumes nothing.
 use Prim.Native.Nat.{ℕ}
 use mathlib.Core.Bool.{false}
 use mathlib.Core.List.{List}
@@ -10,11 +10,15 @@ use borrow.Fn.Kinds.{PK, RK, Out, Dens, endedOf}
 use lib.Ieee.{Float}
 use lib.ListN.{length}
 use Rattle.domain.specs.Weights.{_!_}
-use Rattle.checks.specs.Batch.{Prefixes, Cards, prefixesOf, cardsOf}
+use Rattle.checks.specs.Batch.{Prefixes, Cards, prefixesOf, cardsOf, prefixesIn, cardsIn}
 use Rattle.analytic_v6.proofs.prefixes.grad.batch_loss_and_grad
+use Rattle.analytic_v6.proofs.prefixes.grad.batch_loss_and_grad_in
 use Rattle.analytic_v6.proofs.prefixes.loss.batch_loss
+use Rattle.analytic_v6.proofs.prefixes.loss.batch_loss_in
 use Rattle.analytic_v6.proofs.cards.grad.card_loss_and_grad
+use Rattle.analytic_v6.proofs.cards.grad.card_loss_and_grad_in
 use Rattle.analytic_v6.proofs.cards.loss.card_loss
+use Rattle.analytic_v6.proofs.cards.loss.card_loss_in
 use Rattle.promises.specs.LossCalls.{Call, Kind, prefixes, cards}
 use Rattle.promises.specs.Frozen.{SameInputs, SameWeights, Alike, mayMove}
 use Rattle.outcomes.specs.Outcome.{Outcome, left, Satisfies}
@@ -81,7 +85,45 @@ abbrev pub card-input : (κs : Lfts 6) → Dens κs card_loss.Kinds.ps → Cards
 card-input κs (w, (t-hist, (r-hist, (seq-len, (batch, (seq-lens, (labels, (weights, none)))))))) =
     cardsOf (now t-hist) (now r-hist) seq-len batch (now seq-lens) (now labels) (now weights)
 
--- all four
+-- batch_loss_and_grad_in(align, w, t_hist, r_hist, seq_len, batch, seq_lens, delta_ts, labels, weights, gw, records)
+abbrev pub prefix-call-in : (κs : Lfts 9) → Dens κs batch_loss_and_grad_in.Kinds.ps → Call Prefixes
+prefix-call-in κs (align, (w, (t-hist, (r-hist, (seq-len, (batch, (seq-lens, (delta-ts, (labels, (weights, (gw, (records, none)))))))))))) =
+    record {
+      w = now w;
+      x = prefixesIn align (now t-hist) (now r-hist) seq-len batch (now seq-lens) (now delta-ts) (now labels) (now weights);
+      gw = now gw;
+      records = length (now records);
+      step-grads = 0;
+    }
+
+-- batch_loss_in(align, w, t_hist, r_hist, seq_len, batch, seq_lens, delta_ts, labels, weights)
+abbrev pub prefix-weights-in : (κs : Lfts 7) → Dens κs batch_loss_in.Kinds.ps → List Float
+prefix-weights-in κs (align, (w, rest)) = now w
+
+abbrev pub prefix-input-in : (κs : Lfts 7) → Dens κs batch_loss_in.Kinds.ps → Prefixes
+prefix-input-in κs (align, (w, (t-hist, (r-hist, (seq-len, (batch, (seq-lens, (delta-ts, (labels, (weights, none)))))))))) =
+    prefixesIn align (now t-hist) (now r-hist) seq-len batch (now seq-lens) (now delta-ts) (now labels) (now weights)
+
+-- card_loss_and_grad_in(align, w, t_hist, r_hist, seq_len, batch, seq_lens, labels, weights, gw, records, step_grads)
+abbrev pub card-call-in : (κs : Lfts 9) → Dens κs card_loss_and_grad_in.Kinds.ps → Call Cards
+card-call-in κs (align, (w, (t-hist, (r-hist, (seq-len, (batch, (seq-lens, (labels, (weights, (gw, (records, (step-grads, none)))))))))))) =
+    record {
+      w = now w;
+      x = cardsIn align (now t-hist) (now r-hist) seq-len batch (now seq-lens) (now labels) (now weights);
+      gw = now gw;
+      records = length (now records);
+      step-grads = length (now step-grads);
+    }
+
+-- card_loss_in(align, w, t_hist, r_hist, seq_len, batch, seq_lens, labels, weights)
+abbrev pub card-weights-in : (κs : Lfts 6) → Dens κs card_loss_in.Kinds.ps → List Float
+card-weights-in κs (align, (w, rest)) = now w
+
+abbrev pub card-input-in : (κs : Lfts 6) → Dens κs card_loss_in.Kinds.ps → Cards
+card-input-in κs (align, (w, (t-hist, (r-hist, (seq-len, (batch, (seq-lens, (labels, (weights, none))))))))) =
+    cardsIn align (now t-hist) (now r-hist) seq-len batch (now seq-lens) (now labels) (now weights)
+
+-- all eight
 pub record FrozenEntries : Type 0 where
   pub batch-grad :
       Entry batch_loss_and_grad.Kinds.ps batch_loss_and_grad.Kinds.r batch_loss_and_grad.Reads.Post prefixes prefix-call
@@ -91,3 +133,11 @@ pub record FrozenEntries : Type 0 where
       Entry card_loss_and_grad.Kinds.ps card_loss_and_grad.Kinds.r card_loss_and_grad.Reads.Post cards card-call
       (λ κs e. now (e .1 .1 .1 .1 .1 .1 .1 .1 .0))
   pub card : Alone card_loss.Kinds.ps card_loss.Kinds.r card_loss.Reads.Post cards card-weights card-input
+  pub batch-grad-in :
+      Entry batch_loss_and_grad_in.Kinds.ps batch_loss_and_grad_in.Kinds.r batch_loss_and_grad_in.Reads.Post prefixes prefix-call-in
+      (λ κs e. now (e .1 .1 .1 .1 .1 .1 .1 .1 .1 .1 .0))
+  pub batch-in : Alone batch_loss_in.Kinds.ps batch_loss_in.Kinds.r batch_loss_in.Reads.Post prefixes prefix-weights-in prefix-input-in
+  pub card-grad-in :
+      Entry card_loss_and_grad_in.Kinds.ps card_loss_and_grad_in.Kinds.r card_loss_and_grad_in.Reads.Post cards card-call-in
+      (λ κs e. now (e .1 .1 .1 .1 .1 .1 .1 .1 .1 .0))
+  pub card-in : Alone card_loss_in.Kinds.ps card_loss_in.Kinds.r card_loss_in.Reads.Post cards card-weights-in card-input-in

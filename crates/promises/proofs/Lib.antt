@@ -1,3 +1,5 @@
+pub mod shifting
+pub mod Aligned
 -- Why the promises hold.
 pub mod reading
 pub mod Frozen

@@ -118,7 +118,7 @@ bad = refl
 
 in-card : InCard
 unfolding cardRow first
-in-card n row rating weight label e g = (rw (g, e, day-passes, good), rw (g, e, day-fails, bad))
+in-card end is-last row rating weight label e g = (rw (g, e, day-passes, good), rw (g, e, day-fails, bad))
 
 in-target : InTarget
 unfolding targetDef check first

@@ -7,15 +7,17 @@ use native.Mathlib.Nat.{le-suc, le-of-lt, lt-of-lt-of-le, lt-suc-self, ne-of-lt,
 use native.Mathlib.Omega.{arith}
 use borrow.Author.Tests.{ne-eqb, leb-true, leb-false}
 use lib.Dec.{eqb, leb, eqb·suc-zero}
-use lib.Ieee.{Float, nan, add, sum, ofBits}
+use lib.Ieee.{Float, nan, add, sum, eq, ofBits}
 use lib.ListN.{length, set}
 use lib.Seq.{getD-set-same, getD-set-other}
 use Rattle.domain.specs.Doubles.{_+ᵈ_, zero64}
+use Rattle.domain.specs.Limits.{zero32}
 use Rattle.domain.specs.Weights.{_!_}
 use Rattle.forward.specs.declared.parameters.RuntimeParams.{RuntimeParams}
 use Rattle.forward.specs.declared.state.StepRecord.{StepRecord}
 use Rattle.backward.specs.declared.step.StateGrad.{StateGrad}
-use Rattle.checks.specs.Batch.{History, Prefixes, Cards, lengthAt, history, labelAt, weightAt}
+use Rattle.checks.specs.Align.{targetWeight}
+use Rattle.checks.specs.Batch.{History, Prefixes, Cards, lengthAt, history, targetReadAt, targetWeightAt, labelAt, weightAt}
 use Rattle.checks.specs.Columns.{total}
 use Rattle.checks.specs.Reads.{later, nonZero, cardLabel}
 use Rattle.columns.specs.Scores.{noScore, scoreDef}
@@ -37,17 +39,27 @@ unfolding total
 total-zero part zero h = refl
 total-zero part (suc n) h = rw (total-zero part n (λ i l. h i (lt-of-lt-of-le l (le-suc n))), h n (lt-suc-self n)) no-more
 
+-- a weight that is not read counts as 0
+counted : (read : Bool) (weight : Float) → IsZero weight → IsZero (cond read weight zero32)
+unfolding eq ofBits
+counted true weight e = e
+counted false weight e = refl
+
 -- ---- a prefix
 module _ (p : RuntimeParams) (x : Prefixes) (column : ℕ) (e : IsZero (x .weights ! column)) where
+  no-target : IsZero (targetWeightAt x column)
+  unfolding targetWeight
+  no-target = counted (targetReadAt x column) _ e
+
   pub prefix-loss : prefixLoss p x column ≡ zero64
   unfolding prefixLoss targetLoss
-  prefix-loss = rw e
+  prefix-loss = rw no-target
 
   pub prefix-slots : (slots : List Float) → prefixSlots p x column slots ≡ unscored p (x .table) column (lengthAt (x .table) column) slots
   unfolding prefixSlots targetGrad targetSlots
-  prefix-slots slots = rw e
+  prefix-slots slots = rw no-target
 
--- ---- a row of a card: row 0 is not scored
+-- ---- a row of a card, by its number: row 0 is not scored
 no-label : (row : ℕ) (weight : Float) → (0 < row → IsZero weight) → cardLabel row weight ≡ false
 unfolding cardLabel later nonZero
 no-label zero weight h = refl
@@ -71,7 +83,7 @@ set-zero xs i row l before h = go (leb i row) refl
 module _ (p : RuntimeParams) (hist : History) (label weight : ℕ → Float) (n : ℕ) (e : (row : ℕ) → 0 < row → row < n → IsZero (weight row)) where
   scores : (row : ℕ) → row < n → scoreAt p hist label weight row ≡ noScore
   unfolding scoreAt
-  scores row l = no-score row _ _ _ (λ z. e row z l)
+  scores row l = no-score (row - hist .first) _ _ _ (λ z. e row (omega (arith, z)) l)
 
   losses : (k : ℕ) → k ≤ n → lossAt p hist label weight k ≡ zero64
   unfolding lossAt noScore
@@ -104,8 +116,8 @@ module _ (p : RuntimeParams) (x : Cards) (column : ℕ) (e : Weightless x column
   abbrev hist : History
   hist = history (x .table) column
 
-  last : cardLabel (n - 1) (weightAt x column (n - 1)) ≡ false
-  last = no-label (n - 1) _ (λ z. e (n - 1) z (omega (arith, z)))
+  last : cardLabel (n - 1 - hist .first) (weightAt x column (n - 1)) ≡ false
+  last = no-label (n - 1 - hist .first) _ (λ z. e (n - 1) (omega (arith, z)) (omega (arith, z)))
 
   less : n - 1 ≤ n
   less = omega arith

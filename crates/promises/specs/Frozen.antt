@@ -14,8 +14,9 @@ use Rattle.promises.specs.LossCalls.{Call, Kind, prefixes, cards}
 
 module _ (K : Kind) where
   -- 'two loss calls of one kind with equal sizes, equal column lengths' that 'agree on every cell .. that document 01 counts as
-  -- read'; its 'sizes are rows, columns and the length of each input slice'
+  -- read'; its 'sizes are rows, columns and the length of each input slice'; K5: 'its two calls sharing one mode'
   pub record SameInputs (x y : K .Input) : Type 0 where
+    pub modes : K .table x .align ≡ K .table y .align
     pub rows : K .table x .rows ≡ K .table y .rows
     pub columns : K .table x .columns ≡ K .table y .columns
     pub counts : length (K .table x .lengths) ≡ length (K .table y .lengths)
@@ -65,6 +66,6 @@ module _ (K : Kind) where
         ((a : Float) → inBox k a ≡ true → (K .answer (with-weight c k a) ≡ K .answer c) × (K .slots (with-weight c k a) ≡ K .slots c)) ×
         (K .slots c ! k ≡ c .gw ! k)
 
--- for both kinds
+-- for both kinds, over both modes at once
 abbrev pub Demand3 : Type 0
 Demand3 = Frozen prefixes × Frozen cards

@@ -1,3 +1,4 @@
+pub mod Aligned
 pub mod CallReads
 pub mod Frozen
 pub mod Imported

@@ -1,5 +1,5 @@
 -- A loss call of either kind, and what the two kinds differ in. The entries' contracts are equations with these definitions:
--- batch_loss_and_grad, batch_loss, card_loss_and_grad and card_loss (analytic_v6). Assumes
+-- batch_loss_and_grad, batch_loss, card_loss_and_grad and card_loss (analytic_v6), and the four `…_in` that take the mode. Assumes
 -- nothing.
 use Prim.Native.Nat.{ℕ, _-_}
 use mathlib.Core.Bool.{Bool, _&&_}
@@ -7,9 +7,8 @@ use mathlib.Core.List.{List, []}
 use lib.Dec.{leb}
 use lib.Ieee.{Float}
 use lib.ListN.{length}
-use Rattle.domain.specs.Weights.{_!_}
 use Rattle.checks.specs.Reads.{nonZero, cardLabel}
-use Rattle.checks.specs.Batch.{Table, Prefixes, Cards, lengthAt, at}
+use Rattle.checks.specs.Batch.{Table, Prefixes, Cards, lengthAt, firstAt, targetWeightAt, weightAt}
 use Rattle.checks.specs.Refusals.{longestOf, prefixLossRefusal, prefixGradRefusal, cardLossRefusal, cardGradRefusal}
 use Rattle.columns.specs.Records.{roomDef}
 use Rattle.analytic_v6.specs.declared.answers.Loss.{Loss}
@@ -69,7 +68,7 @@ prefixes = record {
   cell = prefixCell;
   reads = prefixReads;
   steps = λ x column. lengthAt (x .table) column;
-  scored = λ x column. nonZero (x .weights ! column);
+  scored = λ x column. nonZero (targetWeightAt x column);
   room = λ c. leb (longestOf (c .x .table)) (roomDef (c .records));
   refusal = λ c. prefixGradRefusal (c .w) (c .x) (length (c .gw)) (roomDef (c .records));
   answer = λ c. batchLossAndGrad (c .w) (c .x) (length (c .gw)) (c .records);
@@ -87,7 +86,7 @@ cards = record {
   cell = cardCell;
   reads = cardReads;
   steps = λ x column. lengthAt (x .table) column - 1;
-  scored = λ x column. let last = lengthAt (x .table) column - 1 in cardLabel last (at (x .table) (x .weights) last column);
+  scored = λ x column. let last = lengthAt (x .table) column - 1 in cardLabel (last - firstAt (x .table) column) (weightAt x column last);
   room = λ c. leb (longestOf (c .x .table)) (roomDef (c .records)) && leb (longestOf (c .x .table)) (c .step-grads);
   refusal = λ c. cardGradRefusal (c .w) (c .x) (length (c .gw)) (roomDef (c .records)) (c .step-grads);
   answer = λ c. cardsLossAndGrad (c .w) (c .x) (length (c .gw)) (c .records) (c .step-grads);

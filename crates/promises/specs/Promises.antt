@@ -2,6 +2,7 @@
 -- crates/outcomes says of the contracts themselves. Assumes nothing.
 use lib.Ieee.{Format}
 use Rattle.laws.specs.Distances.{Kernels, Minus}
+use Rattle.promises.specs.Aligned.{Aligned}
 use Rattle.promises.specs.Twelve.{Twelve}
 use Rattle.promises.specs.Frozen.{Demand3}
 use Rattle.promises.specs.Imported.{Imported}
@@ -16,3 +17,5 @@ pub record Promises : Type 0 where
   -- change request K1: exp less 1 within its distance (laws/specs/Distances.antt), and a deck from SM-2 (Imported.antt)
   pub exp-less-one : Minus
   pub from-sm2 : Imported
+  -- change request K5: a deck at the end of its tables is given what it is given at their start (Aligned.antt)
+  pub aligned-at-the-end : Aligned

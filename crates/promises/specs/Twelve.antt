@@ -4,7 +4,7 @@
 -- equality. `decimal n d` is the single nearest to n / d, and
 -- `zero32`, `one`, `three` are the singles 0, 1, 3. The proofs are in laws/proofs/Values, and in proofs/Weightless.antt and Twelve.antt. Assumes nothing.
 use mathlib.Core.Path.{_≡_}
-use mathlib.Core.Bool.{true, false}
+use mathlib.Core.Bool.{Bool, true, false}
 use mathlib.Core.List.{List, [], _∷_}
 use Prim.Native.Nat.{ℕ, _+_, _-_, _*_, _^_, _<_}
 use lib.IntN.{pos}
@@ -140,7 +140,8 @@ abbrev pub OfPrefixes : Type 0
 OfPrefixes =
     (w : List Float) (x : Prefixes) → ((column : ℕ) → column < x .table .columns → IsZero (x .weights ! column)) → prefixesTotal w x ≡ zero64
 
--- Those of a card, all of whose review weights are 0, and the total of a call of such cards. Row 0 is not scored, and the last row is no step.
+-- Those of a card, all of whose review weights are 0 or do not count, and the total of a call of such cards. Row 0 is not scored, and the
+-- last row is no step.
 abbrev pub Weightless : (x : Cards) (column : ℕ) → Type 0
 Weightless x column = (row : ℕ) → 0 < row → row < lengthAt (x .table) column → IsZero (weightAt x column row)
 
@@ -176,8 +177,8 @@ InPrefix =
 -- a row of a card whose day is read, with a rating that is valid or not read: after a valid day come the weight and the label
 abbrev pub InCard : Type 0
 InCard =
-    (n row : ℕ) (rating weight label : Float) → cardDay n row rating weight ≡ true → check (cardRating n row) (ratingGood rating) 6 ≡ 0
-    → (cardRow n row last rating weight label ≡ cardScore row weight label) × (cardRow n row next rating weight label ≡ 7)
+    (end is-last : Bool) (row : ℕ) (rating weight label : Float) → cardDay is-last row rating weight ≡ true → check (cardRating end is-last) (ratingGood rating) 6 ≡ 0
+    → (cardRow end is-last row last rating weight label ≡ cardScore row weight label) × (cardRow end is-last row next rating weight label ≡ 7)
 
 -- a prefix's target with a valid weight that is not 0 and a valid label
 abbrev pub InTarget : Type 0

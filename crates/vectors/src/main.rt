@@ -174,8 +174,10 @@ fn run_study() {
 }
 
 fn run_losses(name: &[u8]) {
-    let names = b"batch_loss_and_grad batch_loss card_loss_and_grad card_loss malformed ";
-    run_list(Kind::Losses, name, b"0123", names);
+    let names =
+        b"batch_loss_and_grad batch_loss card_loss_and_grad card_loss batch_loss_and_grad_in batch_loss_in \
+        card_loss_and_grad_in card_loss_in malformed ";
+    run_list(Kind::Losses, name, b"01234567", names);
 }
 
 fn main() {
@@ -193,5 +195,6 @@ fn main() {
         b"training_step training_step_backward malformed ",
     );
     run_losses(b"losses");
+    run_losses(b"aligned");
     run_losses(b"rust");
 }

@@ -5,10 +5,14 @@ ghost use lib.ListN.{length};
 ghost use Rattle.checks.specs.Sizes.{longestDef};
 ghost use Rattle.columns.specs.Records.{roomDef};
 ghost use Rattle.checks.specs.Columns.{total, through};
-ghost use Rattle.checks.specs.Batch.{cardsOf};
+ghost use Rattle.checks.specs.Batch.{cardsIn, cardsOf};
 ghost use Rattle.checks.specs.Tables.{cutAt};
 ghost use Rattle.analytic_v6.specs.Cards.{cardLoss, cardSlots, cardRecords, cardGrads, cardsLossAndGrad, CardsLeave};
 use crate::answers::Loss;
+use checks::align::Align;
+use checks::align::first_review;
+use checks::align::row_from;
+use checks::align::weight_at;
 use checks::refusals::card_grad_refusal;
 use checks::tables::cell_of;
 use checks::tables::cut_length;
@@ -24,6 +28,7 @@ use forward::parameters::runtime_params;
 
 fn column_loss_and_grad(
     p: RuntimeParams,
+    align: Align,
     t_hist: &[f32],
     r_hist: &[f32],
     seq_len: u32,
@@ -40,7 +45,7 @@ fn column_loss_and_grad(
         (cutAt (now «seq_lens») «seq_len» column ≤ roomDef (length (now records))) ×
         (cutAt (now «seq_lens») «seq_len» column ≤ length (now «step_grads»)) ⌝ }
     ensures { λ r. ⌜
-        (let x = cardsOf (now («t_hist» .entry)) (now («r_hist» .entry)) «seq_len» batch (now («seq_lens» .entry))
+        (let x = cardsIn align (now («t_hist» .entry)) (now («r_hist» .entry)) «seq_len» batch (now («seq_lens» .entry))
         (now (labels .entry)) (now (weights .entry)) in
         (r ≡ cardLoss p x column) ×
         (now (gw .exit) ≡ cardSlots p x column (now (gw .entry))) ×
@@ -52,14 +57,17 @@ fn column_loss_and_grad(
         return 0.0;
     }
     let m = n - 1;
+    let first = first_review(align, r_hist, batch, column, n);
     let run = card_forward_recorded(
         p,
+        align,
         t_hist,
         r_hist,
         batch,
         labels,
         weights,
         column,
+        first,
         m,
         records,
         step_grads,
@@ -68,15 +76,17 @@ fn column_loss_and_grad(
     let k = cell_of(m, batch, column);
     let day = read(t_hist, k);
     let label = read(labels, k);
-    let weight = read(weights, k);
+    let weight = weight_at(align, r_hist, weights, k);
+    let number = row_from(m, first);
     write_f64(step_grads, m as usize, 0.0);
-    let end = last_end(p, m, state.s, day, label, weight, run.loss, gw);
+    let end = last_end(p, number, state.s, day, label, weight, run.loss, gw);
     column_backward(p, records, step_grads, m, end.g_s, gw);
     end.loss
 }
 
 fn batch_total_and_grad(
     p: RuntimeParams,
+    align: Align,
     t_hist: &[f32],
     r_hist: &[f32],
     seq_len: u32,
@@ -92,7 +102,7 @@ fn batch_total_and_grad(
         (longestDef (now «seq_lens») «seq_len» batch ≤ roomDef (length (now records))) ×
         (longestDef (now «seq_lens») «seq_len» batch ≤ length (now «step_grads»)) ⌝ }
     ensures { λ r. ⌜
-        (let x = cardsOf (now («t_hist» .entry)) (now («r_hist» .entry)) «seq_len» batch (now («seq_lens» .entry))
+        (let x = cardsIn align (now («t_hist» .entry)) (now («r_hist» .entry)) «seq_len» batch (now («seq_lens» .entry))
         (now (labels .entry)) (now (weights .entry)) in
         (r ≡ total (cardLoss p x) batch) ×
         (now (gw .exit) ≡ through (cardSlots p x) batch (now (gw .entry))) ×
@@ -104,6 +114,7 @@ fn batch_total_and_grad(
     while c < batch {
         let part = column_loss_and_grad(
             p,
+            align,
             t_hist,
             r_hist,
             seq_len,
@@ -124,7 +135,8 @@ fn batch_total_and_grad(
 
 // The same loss, and its gradient added into the 21 slots of `gw`. `records` and `step_grads` are lent for one card at a
 // time: ten singles and a double for each row. A refused call changes none of the three.
-pub fn card_loss_and_grad(
+pub fn card_loss_and_grad_in(
+    align: Align,
     w: &[f32],
     t_hist: &[f32],
     r_hist: &[f32],
@@ -138,7 +150,7 @@ pub fn card_loss_and_grad(
     step_grads: &mut [f64],
 ) -> Loss
     ensures { λ r. ⌜
-        (let x = cardsOf (now («t_hist» .entry)) (now («r_hist» .entry)) «seq_len» batch (now («seq_lens» .entry))
+        (let x = cardsIn align (now («t_hist» .entry)) (now («r_hist» .entry)) «seq_len» batch (now («seq_lens» .entry))
         (now (labels .entry)) (now (weights .entry)) in
         (r ≡ cardsLossAndGrad (now (w .entry)) x (length (now (gw .entry))) (length (now (records .entry)))
         (length (now («step_grads» .entry)))) ×
@@ -148,6 +160,7 @@ pub fn card_loss_and_grad(
     let slots = gw.len();
     let space = room(records);
     let n = card_grad_refusal(
+        align,
         w,
         t_hist,
         r_hist,
@@ -170,6 +183,7 @@ pub fn card_loss_and_grad(
     let p = runtime_params(&v);
     let loss = batch_total_and_grad(
         p,
+        align,
         t_hist,
         r_hist,
         seq_len,
@@ -182,4 +196,42 @@ pub fn card_loss_and_grad(
         step_grads,
     );
     Loss { refusal: 0, loss }
+}
+
+// Where histories stand at the start, as in the Rust.
+pub fn card_loss_and_grad(
+    w: &[f32],
+    t_hist: &[f32],
+    r_hist: &[f32],
+    seq_len: u32,
+    batch: u32,
+    seq_lens: &[u32],
+    labels: &[f32],
+    weights: &[f32],
+    gw: &mut [f64],
+    records: &mut [f32],
+    step_grads: &mut [f64],
+) -> Loss
+    ensures { λ r. ⌜
+        (let x = cardsOf (now («t_hist» .entry)) (now («r_hist» .entry)) «seq_len» batch (now («seq_lens» .entry))
+        (now (labels .entry)) (now (weights .entry)) in
+        (r ≡ cardsLossAndGrad (now (w .entry)) x (length (now (gw .entry))) (length (now (records .entry)))
+        (length (now («step_grads» .entry)))) ×
+        CardsLeave (now (w .entry)) x (now (gw .entry)) (now (records .entry)) (now («step_grads» .entry)) (now (gw .exit))
+        (now (records .exit)) (now («step_grads» .exit))) ⌝ }
+{
+    card_loss_and_grad_in(
+        Align::Start,
+        w,
+        t_hist,
+        r_hist,
+        seq_len,
+        batch,
+        seq_lens,
+        labels,
+        weights,
+        gw,
+        records,
+        step_grads,
+    )
 }

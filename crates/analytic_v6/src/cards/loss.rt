@@ -1,9 +1,13 @@
 // The card loss of analytic_v6.rs alone.
 ghost use mathlib.Core.Path.{_≡_};
 ghost use Rattle.checks.specs.Columns.{total};
-ghost use Rattle.checks.specs.Batch.{cardsOf};
+ghost use Rattle.checks.specs.Batch.{cardsIn, cardsOf};
 ghost use Rattle.analytic_v6.specs.Cards.{cardLoss, cardsLoss};
 use crate::answers::Loss;
+use checks::align::Align;
+use checks::align::first_review;
+use checks::align::row_from;
+use checks::align::weight_at;
 use checks::refusals::card_loss_refusal;
 use checks::tables::cell_of;
 use checks::tables::cut_length;
@@ -16,6 +20,7 @@ use forward::parameters::runtime_params;
 
 fn column_loss(
     p: RuntimeParams,
+    align: Align,
     t_hist: &[f32],
     r_hist: &[f32],
     seq_len: u32,
@@ -26,7 +31,7 @@ fn column_loss(
     column: u32,
 ) -> f64
     ensures { λ r. ⌜
-        r ≡ cardLoss p (cardsOf (now («t_hist» .entry)) (now («r_hist» .entry)) «seq_len» batch (now («seq_lens» .entry))
+        r ≡ cardLoss p (cardsIn align (now («t_hist» .entry)) (now («r_hist» .entry)) «seq_len» batch (now («seq_lens» .entry))
         (now (labels .entry)) (now (weights .entry))) column ⌝ }
 {
     let n = cut_length(seq_lens, seq_len, column);
@@ -34,17 +39,31 @@ fn column_loss(
         return 0.0;
     }
     let m = n - 1;
-    let run = card_forward(p, t_hist, r_hist, batch, labels, weights, column, m);
+    let first = first_review(align, r_hist, batch, column, n);
+    let run = card_forward(
+        p,
+        align,
+        t_hist,
+        r_hist,
+        batch,
+        labels,
+        weights,
+        column,
+        first,
+        m,
+    );
     let state = run.state;
     let k = cell_of(m, batch, column);
     let day = read(t_hist, k);
     let label = read(labels, k);
-    let weight = read(weights, k);
-    last_loss(p, m, state.s, day, label, weight, run.loss)
+    let weight = weight_at(align, r_hist, weights, k);
+    let number = row_from(m, first);
+    last_loss(p, number, state.s, day, label, weight, run.loss)
 }
 
 fn batch_total(
     p: RuntimeParams,
+    align: Align,
     t_hist: &[f32],
     r_hist: &[f32],
     seq_len: u32,
@@ -54,7 +73,7 @@ fn batch_total(
     weights: &[f32],
 ) -> f64
     ensures { λ r. ⌜
-        r ≡ total (cardLoss p (cardsOf (now («t_hist» .entry)) (now («r_hist» .entry)) «seq_len» batch (now («seq_lens» .entry))
+        r ≡ total (cardLoss p (cardsIn align (now («t_hist» .entry)) (now («r_hist» .entry)) «seq_len» batch (now («seq_lens» .entry))
         (now (labels .entry)) (now (weights .entry)))) batch ⌝ }
 {
     let mut loss = 0.0;
@@ -62,6 +81,7 @@ fn batch_total(
     while c < batch {
         let part = column_loss(
             p,
+            align,
             t_hist,
             r_hist,
             seq_len,
@@ -77,7 +97,56 @@ fn batch_total(
     loss
 }
 
-// The summed loss of a batch of cards. Nothing is lent to it but what it reads.
+// The summed loss of a batch of cards that stand where `align` says. Nothing is lent to it but what it reads.
+pub fn card_loss_in(
+    align: Align,
+    w: &[f32],
+    t_hist: &[f32],
+    r_hist: &[f32],
+    seq_len: u32,
+    batch: u32,
+    seq_lens: &[u32],
+    labels: &[f32],
+    weights: &[f32],
+) -> Loss
+    ensures { λ r. ⌜
+        r ≡ cardsLoss (now (w .entry)) (cardsIn align (now («t_hist» .entry)) (now («r_hist» .entry)) «seq_len» batch
+        (now («seq_lens» .entry)) (now (labels .entry)) (now (weights .entry))) ⌝ }
+{
+    let n = card_loss_refusal(
+        align,
+        w,
+        t_hist,
+        r_hist,
+        seq_len,
+        batch,
+        seq_lens,
+        labels,
+        weights,
+    );
+    if n != 0 {
+        return Loss {
+            refusal: n,
+            loss: 0.0,
+        };
+    }
+    let v = copy_weights(w);
+    let p = runtime_params(&v);
+    let loss = batch_total(
+        p,
+        align,
+        t_hist,
+        r_hist,
+        seq_len,
+        batch,
+        seq_lens,
+        labels,
+        weights,
+    );
+    Loss { refusal: 0, loss }
+}
+
+// Where histories stand at the start, as in the Rust.
 pub fn card_loss(
     w: &[f32],
     t_hist: &[f32],
@@ -92,15 +161,15 @@ pub fn card_loss(
         r ≡ cardsLoss (now (w .entry)) (cardsOf (now («t_hist» .entry)) (now («r_hist» .entry)) «seq_len» batch
         (now («seq_lens» .entry)) (now (labels .entry)) (now (weights .entry))) ⌝ }
 {
-    let n = card_loss_refusal(w, t_hist, r_hist, seq_len, batch, seq_lens, labels, weights);
-    if n != 0 {
-        return Loss {
-            refusal: n,
-            loss: 0.0,
-        };
-    }
-    let v = copy_weights(w);
-    let p = runtime_params(&v);
-    let loss = batch_total(p, t_hist, r_hist, seq_len, batch, seq_lens, labels, weights);
-    Loss { refusal: 0, loss }
+    card_loss_in(
+        Align::Start,
+        w,
+        t_hist,
+        r_hist,
+        seq_len,
+        batch,
+        seq_lens,
+        labels,
+        weights,
+    )
 }

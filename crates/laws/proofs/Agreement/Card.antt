@@ -8,21 +8,21 @@ use native.Mathlib.Omega.{arith}
 use borrow.Author.Tests.{eq-eqb, ne-eqb, eqb-false}
 use lib.Dec.{eqb}
 use lib.Ieee.{Float}
-use Rattle.domain.specs.Doubles.{_+ᵈ_, zero64}
+use Rattle.domain.specs.Doubles.{zero64}
 use Rattle.domain.specs.Weights.{_!_}
-use Rattle.checks.specs.Reads.{later, isLast, nonZero, prefixDay, cardDay, cardRating, cardLabel, cardRow}
+use Rattle.checks.specs.Reads.{isLast, prefixDay, cardDay, cardRating, cardLabel, cardRow}
+use Rattle.checks.specs.Align.{isEnd}
 use Rattle.checks.specs.Batch.{History, Cards, lengthAt, history, labelAt, weightAt}
 use Rattle.checks.specs.Faults.{faultAt, rowsFault, cardRows, cardColumn}
 use Rattle.forward.specs.Params.{paramsDef}
 use Rattle.forward.specs.declared.parameters.RuntimeParams.{RuntimeParams}
 use Rattle.forward.specs.declared.state.State.{State}
 use Rattle.forward.specs.WeightsRead.{stepReads, Agree}
-use Rattle.forward.specs.declared.state.StepRecord.{StepRecord}
 use Rattle.forward.proofs.Agreement.{by-cases}
 use Rattle.columns.specs.declared.scores.Score.{Score}
 use Rattle.columns.specs.BackwardPass.{startGrad, backDef}
 use Rattle.columns.specs.LastReview.{lastLoss, lastGrad, lastSlots}
-use Rattle.columns.specs.ForwardPass.{rowScore, stateAt, recordAt, scoreAt, lossAt}
+use Rattle.columns.specs.ForwardPass.{stateAt, recordAt, scoreAt, lossAt}
 use Rattle.analytic_v6.specs.Cards.{cardLoss, cardSlots}
 use Rattle.checks.proofs.reads.Unread.{CardRow, card-row-same}
 use Rattle.laws.proofs.Agreement.Faults.{faults-same}
@@ -40,13 +40,17 @@ module _ (n row : ℕ) where
   pub inside : row < n - 1 → row < n
   inside l = omega (arith, l)
 
-  pub rating-read : row < n - 1 → cardRating n row ≡ true
+  -- in either mode
+  pub rating-read : row < n - 1 → (end : Bool) → cardRating end (isLast n row) ≡ true
   unfolding cardRating
-  rating-read l = rw (before-last l)
+  rating-read l true = refl
+  rating-read l false = rw (before-last l)
 
-  pub day-read : row < n - 1 → (rating weight : Float) → prefixDay row rating ≡ true → cardDay n row rating weight ≡ true
+  -- by the number of the row
+  pub day-read :
+      row < n - 1 → (number : ℕ) (rating weight : Float) → prefixDay number rating ≡ true → cardDay (isLast n row) number rating weight ≡ true
   unfolding cardDay prefixDay
-  day-read l rating weight h = rw (before-last l) h
+  day-read l number rating weight h = rw (before-last l) h
 
 pub last-inside : (n : ℕ) → (n ≡ 0 → ⊥) → n - 1 < n
 last-inside n h = omega (arith, h)
@@ -55,9 +59,10 @@ is-last : (n : ℕ) → (n ≡ 0 → ⊥) → isLast n (n - 1) ≡ true
 unfolding isLast
 is-last n h = eq-eqb (suc (n - 1)) n (omega (arith, h))
 
-pub last-day-read : (n : ℕ) → (n ≡ 0 → ⊥) → (rating weight : Float) → cardLabel (n - 1) weight ≡ true → cardDay n (n - 1) rating weight ≡ true
+pub last-day-read :
+    (n : ℕ) → (n ≡ 0 → ⊥) → (number : ℕ) (rating weight : Float) → cardLabel number weight ≡ true → cardDay (isLast n (n - 1)) number rating weight ≡ true
 unfolding cardDay cardLabel
-last-day-read n h rating weight e = rw (is-last n h) e
+last-day-read n h number rating weight e = rw (is-last n h) e
 
 module _ (p p′ : RuntimeParams) (h h′ : History) (label weight label′ weight′ : ℕ → Float) where
   losses-same : (n : ℕ) → ((row : ℕ) → row < n → scoreAt p h label weight row ≡ scoreAt p′ h′ label′ weight′ row) →
@@ -71,6 +76,9 @@ module _ (p : RuntimeParams) (y : Cards) (column n : ℕ) where
   abbrev hist : History
   hist = history (y .table) column
 
+  abbrev lastOf : ℕ
+  lastOf = n - 1 - hist .first
+
   abbrev stateOf : State
   stateOf = stateAt p hist (n - 1)
 
@@ -81,13 +89,13 @@ module _ (p : RuntimeParams) (y : Cards) (column n : ℕ) where
   beforeOf = lossAt p hist (labelAt y column) (weightAt y column) (n - 1)
 
   abbrev lossOf : Float
-  lossOf = lastLoss p (n - 1) (stateOf .s) (hist .day (n - 1)) (labelAt y column (n - 1)) (weightAt y column (n - 1)) beforeOf
+  lossOf = lastLoss p lastOf (stateOf .s) (hist .day (n - 1)) (labelAt y column (n - 1)) (weightAt y column (n - 1)) beforeOf
 
   abbrev gradOf : Float
-  gradOf = lastGrad p (n - 1) (stateOf .s) (hist .day (n - 1)) (labelAt y column (n - 1)) (weightAt y column (n - 1))
+  gradOf = lastGrad p lastOf (stateOf .s) (hist .day (n - 1)) (labelAt y column (n - 1)) (weightAt y column (n - 1))
 
   abbrev endOf : (gw : List Float) → List Float
-  endOf gw = lastSlots p (n - 1) (stateOf .s) (hist .day (n - 1)) (labelAt y column (n - 1)) (weightAt y column (n - 1)) gw
+  endOf gw = lastSlots p lastOf (stateOf .s) (hist .day (n - 1)) (labelAt y column (n - 1)) (weightAt y column (n - 1)) gw
 
   abbrev walkOf : (gw : List Float) → List Float
   walkOf gw = backDef p (recordAt p hist) (λ row. scoreOf row .«g_r») (n - 1) (startGrad gradOf) (endOf gw)
@@ -108,45 +116,57 @@ module _ (x y : Cards) (column : ℕ) where
   abbrev hy : History
   hy = history (y .table) column
 
+  abbrev last-number : ℕ
+  last-number = n - 1 - hx .first
+
   abbrev pub RowAt : (row : ℕ) → Type 0
   RowAt row =
-      CardRow n row (hx .day row) (hy .day row) (hx .rating row) (hy .rating row)
+      CardRow (isEnd (x .table .align)) (isLast n row) (row - hx .first) (hx .day row) (hy .day row) (hx .rating row) (hy .rating row)
       (weightAt x column row) (weightAt y column row) (labelAt x column row) (labelAt y column row)
 
   -- the cells of the column that count as read are the same
   pub record CardCells : Type 0 where
+    pub modes : x .table .align ≡ y .table .align
     pub lengths : lengthAt (x .table) column ≡ lengthAt (y .table) column
+    pub first : hx .first ≡ hy .first
     pub rows : (row : ℕ) → row < n → RowAt row
 
   module _ (same : CardCells) where
-    rows-same : cardRows hx (labelAt x column) (weightAt x column) column n ≡ cardRows hy (labelAt y column) (weightAt y column) column n
+    abbrev end : Bool
+    end = isEnd (x .table .align)
+
+    row-same : (row : ℕ) → row < n →
+        cardRow end (isLast n row) (row - hx .first) (hx .day row) (hx .rating row) (weightAt x column row) (labelAt x column row) ≡
+        cardRow end (isLast n row) (row - hy .first) (hy .day row) (hy .rating row) (weightAt y column row) (labelAt y column row)
+    row-same row l = card-row-same end (isLast n row) (row - hx .first) _ _ _ _ _ _ _ _ (same .rows row l) ∙ (rw (same .first))
+
+    rows-same : cardRows end hx (labelAt x column) (weightAt x column) column n ≡ cardRows end hy (labelAt y column) (weightAt y column) column n
     unfolding rowsFault
-    rows-same = faults-same _ _ n (λ row l. ap (λ (m : ℕ). faultAt m column row) (card-row-same n row _ _ _ _ _ _ _ _ (same .rows row l)))
+    rows-same = faults-same _ _ n (λ row l. ap (λ (m : ℕ). faultAt m column row) (row-same row l))
 
     pub card-fault-same : cardColumn x column ≡ cardColumn y column
     unfolding cardColumn
-    card-fault-same = rw (← same .lengths) rows-same
+    card-fault-same = rows-same ∙ (rw (same .lengths, same .modes))
 
     module _ (w v : List Float)
-        (weights : (row : ℕ) → row < n - 1 → Agree (stepReads (stateAt (paramsDef w) hx row) (hx .day row) (hx .rating row) row) w v)
+        (weights : (row : ℕ) → row < n - 1 → Agree (stepReads (stateAt (paramsDef w) hx row) (hx .day row) (hx .rating row) (row - hx .first)) w v)
         (twenty : w ! 20 ≡ v ! 20) where
       rows : (row : ℕ) → row < n - 1 → Row w v hx hy row
       rows row l =
           let h = same .rows row (inside n row l) in
-          record { rating = h .ratings (rating-read n row l); day = λ e. h .days (day-read n row l _ _ e); weights = weights row l }
+          record { rating = h .ratings (rating-read n row l end); day = λ e. h .days (day-read n row l _ _ _ e); weights = weights row l }
 
       pub card-record-same : (row : ℕ) → row < n - 1 → recordAt (paramsDef w) hx row ≡ recordAt (paramsDef v) hy row
-      card-record-same = record-same w v hx hy (n - 1) rows
+      card-record-same = record-same w v hx hy (same .first) (n - 1) rows
 
       state-same : stateOf (paramsDef w) x column n ≡ stateOf (paramsDef v) y column n
-      state-same = states-same w v hx hy (n - 1) rows
+      state-same = states-same w v hx hy (same .first) (n - 1) rows
 
       score-same : (row : ℕ) → row < n - 1 → scoreOf (paramsDef w) x column n row ≡ scoreOf (paramsDef v) y column n row
       unfolding scoreAt
       score-same row l =
           let h = same .rows row (inside n row l) in
-          row-score-same row _ _ _ _ _ (h .weights) (h .labels) ∙
-          ap (λ (s : StepRecord). rowScore row (s .retrievability) (labelAt y column row) (weightAt y column row)) (card-record-same row l)
+          row-score-same (row - hx .first) _ _ _ _ _ (h .weights) (h .labels) ∙ (rw (card-record-same row l, same .first))
 
       before-same : beforeOf (paramsDef w) x column n ≡ beforeOf (paramsDef v) y column n
       before-same = losses-same (paramsDef w) (paramsDef v) hx hy _ _ _ _ (n - 1) score-same
@@ -155,21 +175,22 @@ module _ (x y : Cards) (column : ℕ) where
         last : RowAt (n - 1)
         last = same .rows (n - 1) (last-inside n some)
 
-        last-day : cardLabel (n - 1) (weightAt x column (n - 1)) ≡ true → hx .day (n - 1) ≡ hy .day (n - 1)
-        last-day e = last .days (last-day-read n some _ _ e)
+        last-day : cardLabel last-number (weightAt x column (n - 1)) ≡ true → hx .day (n - 1) ≡ hy .day (n - 1)
+        last-day e = last .days (last-day-read n some _ _ _ e)
 
         loss-of : lossOf (paramsDef w) x column n ≡ lossOf (paramsDef v) y column n
-        loss-of = last-loss-same w v twenty (n - 1) _ _ _ _ _ _ _ (last .weights) last-day (last .labels) _ ∙ (rw (state-same, before-same))
+        loss-of =
+            last-loss-same w v twenty last-number _ _ _ _ _ _ _ (last .weights) last-day (last .labels) _ ∙ (rw (state-same, before-same, same .first))
 
         grad-of : gradOf (paramsDef w) x column n ≡ gradOf (paramsDef v) y column n
-        grad-of = last-grad-same w v twenty (n - 1) _ _ _ _ _ _ _ (last .weights) last-day (last .labels) ∙ (rw state-same)
+        grad-of = last-grad-same w v twenty last-number _ _ _ _ _ _ _ (last .weights) last-day (last .labels) ∙ (rw (state-same, same .first))
 
         end-of : (gw : List Float) → endOf (paramsDef w) x column n gw ≡ endOf (paramsDef v) y column n gw
-        end-of gw = last-slots-same w v twenty (n - 1) _ _ _ _ _ _ _ (last .weights) last-day (last .labels) gw ∙ (rw state-same)
+        end-of gw = last-slots-same w v twenty last-number _ _ _ _ _ _ _ (last .weights) last-day (last .labels) gw ∙ (rw (state-same, same .first))
 
         walk-of : (gw : List Float) → walkOf (paramsDef w) x column n gw ≡ walkOf (paramsDef v) y column n gw
         walk-of gw =
-            walk-same w v hx hy (n - 1) rows twenty _ _ (λ row l. ap (λ (s : Score). s .«g_r») (score-same row l)) _ _ ∙
+            walk-same w v hx hy (same .first) (n - 1) rows twenty _ _ (λ row l. ap (λ (s : Score). s .«g_r») (score-same row l)) _ _ ∙
             (rw (grad-of, end-of gw))
 
       pub card-loss-same : cardLoss (paramsDef w) x column ≡ cardLoss (paramsDef v) y column
@@ -186,11 +207,11 @@ module _ (x y : Cards) (column : ℕ) where
   -- a slot that neither the steps nor the last row may move
   pub card-keeps :
       (p : RuntimeParams) (slot : ℕ) → ((row : ℕ) → row < n - 1 → Still p hx slot row) →
-      eqb slot 20 && cardLabel (n - 1) (weightAt x column (n - 1)) ≡ false → (gw : List Float) → cardSlots p x column gw ! slot ≡ gw ! slot
+      eqb slot 20 && cardLabel last-number (weightAt x column (n - 1)) ≡ false → (gw : List Float) → cardSlots p x column gw ! slot ≡ gw ! slot
   unfolding cardSlots
   card-keeps p slot steps end gw =
       kept (eqb n 0) _
-      (back-keeps _ _ slot p (n - 1) (λ row l. scored-still p _ slot row _ _ (steps row l)) _ _ ∙ last-keeps slot p (n - 1) _ _ _ _ gw end)
+      (back-keeps _ _ slot p (n - 1) (λ row l. scored-still p _ slot row _ _ (steps row l)) _ _ ∙ last-keeps slot p last-number _ _ _ _ gw end)
     where
       kept : (b : Bool) (xs : List Float) → xs ! slot ≡ gw ! slot → cond b gw xs ! slot ≡ gw ! slot
       kept true xs h = refl

@@ -1,6 +1,6 @@
 -- Demand 3 of either kind, from what a kind says of one column. Assumes nothing.
-use Prim.Native.Nat.{ℕ, _<_}
-use mathlib.Core.Bool.{Bool, true, false, _&&_}
+use Prim.Native.Nat.{ℕ, _-_, _<_}
+use mathlib.Core.Bool.{true, false, _&&_}
 use mathlib.Core.List.{List}
 use mathlib.Core.Path.{_≡_, refl, ap, _∙_}
 use borrow.Author.Tests.{eq-eqb}
@@ -28,7 +28,7 @@ module _ (K : Kind) where
   abbrev pub AgreeSteps : (x : K .Input) (column : ℕ) (w v : List Float) → Type 0
   AgreeSteps x column w v =
       let h = history (K .table x) column in
-      (row : ℕ) → row < K .steps x column → Agree (stepReads (stateAt (paramsDef w) h row) (h .day row) (h .rating row) row) w v
+      (row : ℕ) → row < K .steps x column → Agree (stepReads (stateAt (paramsDef w) h row) (h .day row) (h .rating row) (row - h .first)) w v
 
   pub record Parts : Type 0 where
     -- a column's loss, and what it makes of the slots

@@ -1,35 +1,40 @@
 -- Demand 3 for cards. Assumes nothing.
 use Prim.Native.Nat.{ℕ, _-_, _<_}
-use mathlib.Core.Bool.{Bool, true, false, _&&_, cond}
+use mathlib.Core.Bool.{Bool, true, false, _&&_}
 use mathlib.Core.List.{List}
 use mathlib.Core.Path.{_≡_, refl, sym, ap, _∙_}
-use borrow.Author.Tests.{eq-eqb, eqb-true, eqb-false, ltb-true, lt-ltb}
+use native.Mathlib.Omega.{arith}
+use borrow.Author.Tests.{eqb-true, eqb-false, ltb-true, lt-ltb}
 use lib.Dec.{eqb, leb, ltb}
 use lib.Ieee.{Float}
 use lib.ListN.{length}
-use Rattle.domain.specs.Weights.{_!_, weightsRefusal}
-use Rattle.checks.specs.Reads.{later, prefixDay, cardDay, cardRating, cardLabel}
-use Rattle.checks.proofs.reads.Unread.{and-same, CardRow, card-day-read, card-label-read}
-use Rattle.checks.specs.Batch.{Cards, lengthAt, at}
+use Rattle.domain.specs.Weights.{weightsRefusal}
+use Rattle.checks.specs.Align.{isEnd, counts}
+use Rattle.checks.specs.Reads.{later, isLast, cardRating, cardLabel}
+use Rattle.checks.proofs.align.First.{first-same}
+use Rattle.checks.proofs.align.Counted.{counts-same, weighed-same}
+use Rattle.checks.proofs.reads.Unread.{and-same, card-day-read, card-label-read}
+use Rattle.checks.specs.Batch.{Cards, lengthAt, firstAt, at, weightAt}
 use Rattle.checks.specs.Faults.{firstFault, cardColumn, cardFault}
+use Rattle.checks.specs.declared.align.Align.{Align}
 use Rattle.checks.specs.declared.fault.Fault.{Fault}
 use Rattle.checks.specs.Refusals.{lossRefusal, gradRefusal, longestOf, cardsSized, cardLossRefusal, cardGradRefusal}
 use Rattle.checks.proofs.Orders.{grad-accepted}
 use Rattle.columns.specs.Records.{roomDef}
 use Rattle.analytic_v6.specs.Cards.{cardLoss, cardSlots, cardsLossAndGrad, cardsSlots, cardsLoss}
-use Rattle.laws.proofs.Agreement.Card.{last-inside, card-record-same, inside, rating-read, day-read, CardCells, card-fault-same, card-loss-same, card-slots-same, card-keeps}
+use Rattle.laws.proofs.Agreement.Card.{last-inside, card-record-same, inside, rating-read, day-read, RowAt, CardCells, card-fault-same, card-loss-same, card-slots-same, card-keeps}
 use Rattle.laws.proofs.Agreement.Faults.{faults-same}
 use Rattle.analytic_v6.proofs.cards.Entry.{halves}
-use Rattle.promises.specs.CallReads.{Slice, days, ratings, targets, labels, weights, inside as in-table, cardCell, cardReads, callMoves}
-use Rattle.promises.specs.LossCalls.{Call, Kind, cardSlice, cards}
+use Rattle.promises.specs.CallReads.{Slice, days, ratings, targets, labels, weights, inside as in-table, cardCell, cardReads}
+use Rattle.promises.specs.LossCalls.{Call, cardSlice, cards}
 use Rattle.promises.specs.Frozen.{SameInputs, Alike, Frozen}
 use Rattle.promises.proofs.reading.Both.{frozen}
 use Rattle.promises.proofs.reading.Steps.{SameSteps}
 
--- an empty card has no last row
-no-label : (n : ℕ) (a b : Float) → n ≡ 0 → cardLabel (n - 1) a ≡ cardLabel (n - 1) b
+-- row 0 has no label
+no-label : (row : ℕ) (a b : Float) → row ≡ 0 → cardLabel row a ≡ cardLabel row b
 unfolding cardLabel later
-no-label n a b z = rw z
+no-label row a b z = rw z
 
 module _ (x y : Cards) (same : SameInputs cards x y) where
   abbrev c : ℕ
@@ -43,22 +48,42 @@ module _ (x y : Cards) (same : SameInputs cards x y) where
     column-in : ltb column c ≡ true
     column-in = lt-ltb column c l
 
-    row-same : (row : ℕ) → row < n →
-        CardRow n row (at (x .table) (x .table .days) row column) (at (y .table) (y .table .days) row column) (at (x .table) (x .table .ratings) row column) (at (y .table) (y .table .ratings) row column)
-        (at (x .table) (x .weights) row column) (at (y .table) (y .weights) row column) (at (x .table) (x .labels) row column) (at (y .table) (y .labels) row column)
+    rating-same : (row : ℕ) → row < n → cardRating (isEnd (x .table .align)) (isLast n row) ≡ true →
+        at (x .table) (x .table .ratings) row column ≡ at (y .table) (y .table .ratings) row column
+    unfolding cardReads cardCell
+    rating-same row m e = same .cells ratings row column (rw (column-in, lt-ltb row _ m) e)
+
+    -- at the end every rating is read
+    end-same : (row : ℕ) → row < n → isEnd (x .table .align) ≡ true →
+        at (x .table) (x .table .ratings) row column ≡ at (y .table) (y .table .ratings) row column
+    unfolding cardRating
+    end-same row m e = rating-same row m (rw e)
+
+    firsts-same : firstAt (x .table) column ≡ firstAt (y .table) column
+    firsts-same = first-same (x .table .align) _ _ n (λ e row m. end-same row m e) ∙ (rw (same .modes, same .lengths column column-in))
+
+    weight-same : (row : ℕ) → row < n → later (row - firstAt (x .table) column) ≡ true → weightAt x column row ≡ weightAt y column row
+    unfolding cardReads cardCell
+    weight-same row m e =
+        weighed-same (x .table .align) _ _ (end-same row m) _ _ (λ k. same .cells weights row column (rw (column-in, lt-ltb row _ m, e) k)) ∙
+        (rw (same .modes))
+
+    row-same : (row : ℕ) → row < n → RowAt x y column row
     unfolding cardReads cardCell
     row-same row m =
         record {
-          ratings = λ e. same .cells ratings row column (rw (column-in, lt-ltb row _ m) e);
+          ratings = rating-same row m;
           days = λ e. same .cells days row column (rw (column-in, lt-ltb row _ m) e);
-          weights = λ e. same .cells weights row column (rw (column-in, lt-ltb row _ m) e);
+          weights = weight-same row m;
           labels = λ e. same .cells labels row column (rw (column-in, lt-ltb row _ m) e);
         }
 
     column-cells : CardCells x y column
     column-cells =
         record {
+          modes = same .modes;
           lengths = same .lengths column column-in;
+          first = firsts-same;
           rows = row-same;
         }
 
@@ -67,8 +92,9 @@ module _ (x y : Cards) (same : SameInputs cards x y) where
       record {
         columns = same .columns;
         counts = λ column l. ap (λ (n : ℕ). n - 1) (same .lengths column (lt-ltb column c l));
-        ratings = λ row column l m. row-same column l row (inside _ row m) .ratings (rating-read _ row m);
-        days = λ row column l m e. row-same column l row (inside _ row m) .days (day-read _ row m _ _ e);
+        firsts = firsts-same;
+        ratings = λ row column l m. row-same column l row (inside _ row m) .ratings (rating-read _ row m _);
+        days = λ row column l m e. row-same column l row (inside _ row m) .days (day-read _ row m _ _ _ e);
       }
 
   row-read : (row column : ℕ) → in-table (x .table) row column ≡ in-table (y .table) row column
@@ -86,11 +112,13 @@ module _ (x y : Cards) (same : SameInputs cards x y) where
   pub same-cells : (s : Slice) (row column : ℕ) → cardReads x s row column ≡ cardReads y s row column
   unfolding cardReads
   same-cells days row column =
-      in-row row column _ _ (λ l m. card-day-read _ row _ _ _ _ _ _ _ _ (row-same column l row m) ∙ ap (λ (n : ℕ). cardDay n row (at (y .table) (y .table .ratings) row column) (at (y .table) (y .weights) row column)) (length-same column l))
-  same-cells ratings row column = in-row row column _ _ (λ l m. ap (λ (n : ℕ). cardRating n row) (length-same column l))
+      in-row row column _ _ (λ l m. card-day-read _ _ _ _ _ _ _ _ _ _ _ (row-same column l row m) ∙ (rw (firsts-same column l, length-same column l)))
+  same-cells ratings row column = in-row row column _ _ (λ l m. rw (length-same column l, same .modes))
   same-cells targets row column = refl
-  same-cells labels row column = in-row row column _ _ (λ l m. card-label-read _ row _ _ _ _ _ _ _ _ (row-same column l row m))
-  same-cells weights row column = in-row row column _ _ (λ l m. refl)
+  same-cells labels row column =
+      in-row row column _ _ (λ l m. card-label-read _ _ _ _ _ _ _ _ _ _ _ (row-same column l row m) ∙ (rw (firsts-same column l)))
+  same-cells weights row column =
+      in-row row column _ _ (λ l m. rw (firsts-same column l, counts-same (x .table .align) _ _ (end-same column l row m), same .modes))
 
   -- ---- the same refusal
   fault-same : cardFault x .refusal ≡ cardFault y .refusal
@@ -119,12 +147,15 @@ module _ (x y : Cards) (same : SameInputs cards x y) where
       m : ℕ
       m = lengthAt (x .table) column - 1
 
-      moved : cardLabel m (at (y .table) (y .weights) m column) ≡ cards .scored y column
-      moved = ap (λ (n : ℕ). cardLabel (n - 1) (at (y .table) (y .weights) (n - 1) column)) (length-same column l)
+      number : ℕ
+      number = m - firstAt (x .table) column
+
+      moved : cardLabel number (weightAt y column m) ≡ cards .scored y column
+      moved = rw (firsts-same column l, length-same column l)
 
       by : (b : Bool) → b ≡ eqb (lengthAt (x .table) column) 0 → cards .scored x column ≡ cards .scored y column
-      by true e = no-label (lengthAt (x .table) column) _ _ (eqb-true _ 0 (sym e)) ∙ moved
-      by false e = card-label-read _ m _ _ _ _ _ _ _ _ (row-same column l m (last-inside _ (eqb-false _ 0 (sym e)))) ∙ moved
+      by true e = no-label number _ _ (omega (arith, eqb-true (lengthAt (x .table) column) 0 (sym e))) ∙ moved
+      by false e = card-label-read _ _ number _ _ _ _ _ _ _ _ (row-same column l m (last-inside _ (eqb-false _ 0 (sym e)))) ∙ moved
 
 refusals : (c d : Call Cards) → Alike cards c d → cards .refusal c ≡ cards .refusal d
 refusals c d h =

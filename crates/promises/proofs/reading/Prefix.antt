@@ -1,27 +1,30 @@
 -- Demand 3 for prefixes. Assumes nothing.
-use Prim.Native.Nat.{ℕ, _<_}
-use mathlib.Core.Bool.{Bool, true, false, _&&_, cond}
+use Prim.Native.Nat.{ℕ, _-_, _<_}
+use mathlib.Core.Bool.{Bool, true, _&&_}
 use mathlib.Core.List.{List}
-use mathlib.Core.Path.{_≡_, refl, sym, ap, _∙_}
-use borrow.Author.Tests.{eq-eqb, eqb-true, ltb-true, lt-ltb}
-use lib.Dec.{eqb, leb, ltb}
+use mathlib.Core.Path.{_≡_, refl, ap, _∙_}
+use borrow.Author.Tests.{ltb-true, lt-ltb}
+use lib.Dec.{leb, ltb}
 use lib.Ieee.{Float}
 use lib.ListN.{length}
 use Rattle.domain.specs.Weights.{_!_, weightsRefusal}
+use Rattle.checks.specs.Align.{targetWeight}
 use Rattle.checks.specs.Reads.{nonZero, prefixDay}
+use Rattle.checks.proofs.align.First.{first-same}
 use Rattle.checks.proofs.reads.Unread.{and-same}
-use Rattle.checks.specs.Batch.{Prefixes, lengthAt, at}
+use Rattle.checks.specs.Batch.{Prefixes, lengthAt, firstAt, at, targetReadAt, targetWeightAt}
 use Rattle.checks.specs.Faults.{firstFault, prefixColumn, prefixFault}
 use Rattle.checks.specs.declared.fault.Fault.{Fault}
 use Rattle.checks.specs.Refusals.{lossRefusal, gradRefusal, longestOf, prefixesSized, prefixLossRefusal, prefixGradRefusal}
 use Rattle.checks.proofs.Orders.{grad-accepted}
+use Rattle.forward.proofs.Agreement.{by-cases}
 use Rattle.columns.specs.Records.{roomDef}
 use Rattle.analytic_v6.specs.Prefixes.{prefixLoss, prefixSlots, batchLossAndGrad, batchSlots, batchLoss}
 use Rattle.laws.proofs.Agreement.Faults.{faults-same}
 use Rattle.laws.proofs.Agreement.Prefix.{PrefixCells, prefix-record-same, prefix-fault-same, prefix-loss-same, prefix-slots-same, prefix-keeps}
 use Rattle.analytic_v6.proofs.cards.Entry.{halves}
-use Rattle.promises.specs.CallReads.{Slice, days, ratings, targets, labels, weights, inside, prefixCell, prefixReads, callReads, callMoves}
-use Rattle.promises.specs.LossCalls.{Call, Kind, prefixSlice, prefixes}
+use Rattle.promises.specs.CallReads.{Slice, days, ratings, targets, labels, weights, inside, prefixCell, prefixReads}
+use Rattle.promises.specs.LossCalls.{Call, prefixSlice, prefixes}
 use Rattle.promises.specs.Frozen.{SameInputs, Alike, Frozen}
 use Rattle.promises.proofs.reading.Both.{frozen}
 use Rattle.promises.proofs.reading.Steps.{SameSteps}
@@ -39,19 +42,32 @@ module _ (x y : Prefixes) (same : SameInputs prefixes x y) where
     unfolding prefixReads prefixCell
     rating-same row m = same .cells ratings row column (rw (column-in, lt-ltb row _ m))
 
-    day-same : (row : ℕ) → row < lengthAt (x .table) column → prefixDay row (at (x .table) (x .table .ratings) row column) ≡ true → at (x .table) (x .table .days) row column ≡ at (y .table) (y .table .days) row column
+    firsts-same : firstAt (x .table) column ≡ firstAt (y .table) column
+    firsts-same = first-same (x .table .align) _ _ _ (λ e. rating-same) ∙ (rw (same .modes, same .lengths column column-in))
+
+    day-same :
+        (row : ℕ) → row < lengthAt (x .table) column →
+        prefixDay (row - firstAt (x .table) column) (at (x .table) (x .table .ratings) row column) ≡ true →
+        at (x .table) (x .table .days) row column ≡ at (y .table) (y .table .days) row column
     unfolding prefixReads prefixCell
     day-same row m e = same .cells days row column (rw (column-in, lt-ltb row _ m) e)
 
-    weight-same : x .weights ! column ≡ y .weights ! column
-    unfolding prefixReads prefixCell
-    weight-same = same .cells weights 0 column column-in
+    read-same : targetReadAt x column ≡ targetReadAt y column
+    read-same = rw (firsts-same, same .modes, same .lengths column column-in)
 
-    label-same : nonZero (x .weights ! column) ≡ true → x .labels ! column ≡ y .labels ! column
+    cell-same : targetReadAt x column ≡ true → x .weights ! column ≡ y .weights ! column
+    unfolding prefixReads prefixCell
+    cell-same e = same .cells weights 0 column (rw column-in e)
+
+    weight-same : targetWeightAt x column ≡ targetWeightAt y column
+    unfolding targetWeight
+    weight-same = by-cases (targetReadAt x column) _ _ _ _ cell-same (λ e. refl) ∙ (rw read-same)
+
+    label-same : nonZero (targetWeightAt x column) ≡ true → x .labels ! column ≡ y .labels ! column
     unfolding prefixReads prefixCell
     label-same e = same .cells labels 0 column (rw column-in e)
 
-    target-same : nonZero (x .weights ! column) ≡ true → x .days ! column ≡ y .days ! column
+    target-same : nonZero (targetWeightAt x column) ≡ true → x .days ! column ≡ y .days ! column
     unfolding prefixReads prefixCell
     target-same e = same .cells targets 0 column (rw column-in e)
 
@@ -59,6 +75,7 @@ module _ (x y : Prefixes) (same : SameInputs prefixes x y) where
     column-cells =
         record {
           lengths = same .lengths column column-in;
+          first = firsts-same;
           ratings = rating-same;
           days = day-same;
           weights = weight-same;
@@ -71,6 +88,7 @@ module _ (x y : Prefixes) (same : SameInputs prefixes x y) where
       record {
         columns = same .columns;
         counts = λ column l. same .lengths column (lt-ltb column c l);
+        firsts = firsts-same;
         ratings = λ row column l m. rating-same column l row m;
         days = λ row column l m e. day-same column l row m e;
       }
@@ -84,19 +102,27 @@ module _ (x y : Prefixes) (same : SameInputs prefixes x y) where
   with-rows : (row column : ℕ) → inside (x .table) row column ≡ true → (column < c) × (row < lengthAt (x .table) column)
   with-rows row column e = let h = halves (ltb column c) _ e in (ltb-true column c (h .0), ltb-true row _ (h .1))
 
-  counted : (column : ℕ) → ltb column c && nonZero (x .weights ! column) ≡ ltb column (y .table .columns) && nonZero (y .weights ! column)
-  counted column =
-      and-same (ltb column c) _ _ (λ e. ap nonZero (weight-same column (ltb-true column c e))) ∙ ap (λ (b : Bool). b && nonZero (y .weights ! column)) (column-read column)
+  -- what a column reads, where it is in the table
+  in-column : (column : ℕ) (a b : Bool) → (column < c → a ≡ b) → ltb column c && a ≡ ltb column (y .table .columns) && b
+  in-column column a b h = and-same (ltb column c) a b (λ e. h (ltb-true column c e)) ∙ ap (λ (t : Bool). t && b) (column-read column)
+
+  counted : (column : ℕ) → ltb column c && nonZero (targetWeightAt x column) ≡ ltb column (y .table .columns) && nonZero (targetWeightAt y column)
+  counted column = in-column column _ _ (λ l. ap nonZero (weight-same column l))
+
+  day-read : (row column : ℕ) → column < c → row < lengthAt (x .table) column →
+      prefixDay (row - firstAt (x .table) column) (at (x .table) (x .table .ratings) row column) ≡
+      prefixDay (row - firstAt (y .table) column) (at (y .table) (y .table .ratings) row column)
+  day-read row column l m = rw (rating-same column l row m, firsts-same column l)
 
   pub same-cells : (s : Slice) (row column : ℕ) → prefixReads x s row column ≡ prefixReads y s row column
   unfolding prefixReads
   same-cells days row column =
-      and-same (inside (x .table) row column) _ _ (λ e. let h = with-rows row column e in ap (prefixDay row) (rating-same column (h .0) row (h .1))) ∙
-      ap (λ (b : Bool). b && prefixDay row (at (y .table) (y .table .ratings) row column)) (row-read row column)
+      and-same (inside (x .table) row column) _ _ (λ e. let h = with-rows row column e in day-read row column (h .0) (h .1)) ∙
+      ap (λ (b : Bool). b && prefixDay (row - firstAt (y .table) column) (at (y .table) (y .table .ratings) row column)) (row-read row column)
   same-cells ratings row column = row-read row column
   same-cells targets row column = counted column
   same-cells labels row column = counted column
-  same-cells weights row column = column-read column
+  same-cells weights row column = in-column column _ _ (read-same column)
 
   -- ---- the same refusal
   fault-same : prefixFault x .refusal ≡ prefixFault y .refusal

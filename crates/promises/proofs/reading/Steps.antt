@@ -1,7 +1,7 @@
 -- The weights that the steps of a call read, row by row, and the slots that they may move. Assumes nothing.
-use Prim.Native.Nat.{ℕ, zero, suc, _<_}
-use mathlib.Core.Bool.{Bool, true, false, _&&_, _||_, cond}
-use mathlib.Core.List.{List, []}
+use Prim.Native.Nat.{ℕ, zero, suc, _-_, _<_}
+use mathlib.Core.Bool.{Bool, true, false, _&&_, _||_}
+use mathlib.Core.List.{List}
 use mathlib.Core.Path.{_≡_, refl, sym, ap, _∙_, subst}
 use native.Mathlib.Nat.{suc-ne-zero}
 use borrow.Author.Tests.{ne-eqb}
@@ -10,27 +10,33 @@ use lib.Ieee.{Float, eq, ofBits}
 use Rattle.domain.specs.Limits.{zero32}
 use Rattle.domain.specs.Weights.{_!_}
 use Rattle.checks.specs.Reads.{later, nonZero, prefixDay}
-use Rattle.checks.specs.Batch.{Table, History, at, history}
+use Rattle.checks.specs.Batch.{Table, History, firstAt, at, history}
 use Rattle.forward.specs.Params.{paramsDef}
 use Rattle.forward.specs.declared.parameters.RuntimeParams.{RuntimeParams}
-use Rattle.forward.specs.WeightsRead.{among, firstWeights, reviewReads, stepReads, Agree}
-use Rattle.forward.specs.Step.{noState, isFirst, ratingNumber}
+use Rattle.forward.specs.WeightsRead.{among, reviewReads, stepReads, Agree}
+use Rattle.forward.specs.Step.{noState, isFirst}
+use Rattle.forward.specs.declared.state.State.{State}
 use Rattle.forward.specs.declared.state.StepRecord.{StepRecord}
 use Rattle.forward.proofs.Agreement.{by-cases}
 use Rattle.backward.specs.Moves.{slotsOf}
 use Rattle.backward.proofs.Keeps.{or-left, or-right}
 use Rattle.columns.specs.ForwardPass.{stateAt, recordAt}
+use Rattle.columns.proofs.Before.{none-before}
 use Rattle.laws.proofs.Agreement.Walk.{Still, still-unread}
 use Rattle.promises.specs.CallReads.{some, rowReads, stepsRead, callReads, columnMoves, callMoves}
 use Rattle.promises.proofs.reading.Some.{none-of, none-some, some-of, some-same}
 
--- in a loss call the first step is that of row 0
+-- the row is numbered from the first review, where the state is (0, 0)
+numbered : (q : State) (row : ℕ) (day rating : Float) → (row ≡ 0 → q ≡ noState) → stepReads q day rating row ≡ rowReads row day rating
+unfolding stepReads rowReads isFirst noState eq ofBits
+numbered q zero day rating z = rw (z refl)
+numbered q (suc row) day rating z = rw (ne-eqb (suc row) 0 (suc-ne-zero row))
+
+-- in a loss call the first step is that of the first review
 pub reads-are :
     (p : RuntimeParams) (h : History) (row : ℕ) (day rating : Float) →
-    stepReads (stateAt p h row) day rating row ≡ rowReads row day rating
-unfolding stepReads rowReads isFirst stateAt noState eq ofBits
-reads-are p h zero day rating = refl
-reads-are p h (suc row) day rating = rw (ne-eqb (suc row) 0 (suc-ne-zero row))
+    stepReads (stateAt p h row) day rating (row - h .first) ≡ rowReads (row - h .first) day rating
+reads-are p h row day rating = numbered (stateAt p h row) (row - h .first) day rating (none-before p h row)
 
 -- the list depends on no day but a read one
 read-later : (row : ℕ) (rating : Float) → eq rating zero32 ≡ false → eqb row 0 ≡ false → prefixDay row rating ≡ true
@@ -47,16 +53,20 @@ row-same row day day′ rating h =
 pub record SameSteps (t u : Table) (steps steps′ : ℕ → ℕ) : Type 0 where
   pub columns : t .columns ≡ u .columns
   pub counts : (column : ℕ) → column < t .columns → steps column ≡ steps′ column
+  pub firsts : (column : ℕ) → column < t .columns → firstAt t column ≡ firstAt u column
   pub ratings : (row column : ℕ) → column < t .columns → row < steps column → at t (t .ratings) row column ≡ at u (u .ratings) row column
-  pub days : (row column : ℕ) → column < t .columns → row < steps column → prefixDay row (at t (t .ratings) row column) ≡ true → at t (t .days) row column ≡ at u (u .days) row column
+  pub days :
+      (row column : ℕ) → column < t .columns → row < steps column → prefixDay (row - firstAt t column) (at t (t .ratings) row column) ≡ true →
+      at t (t .days) row column ≡ at u (u .days) row column
 
 module _ (t u : Table) (steps steps′ : ℕ → ℕ) (same : SameSteps t u steps steps′) (k : ℕ) where
   abbrev rowOf : (t : Table) (row column : ℕ) → Bool
-  rowOf t row column = among k (rowReads row (at t (t .days) row column) (at t (t .ratings) row column))
+  rowOf t row column = among k (rowReads (row - firstAt t column) (at t (t .days) row column) (at t (t .ratings) row column))
 
   row-read : (row column : ℕ) → column < t .columns → row < steps column → rowOf t row column ≡ rowOf u row column
   row-read row column c l =
-      ap (among k) (row-same row _ _ _ (same .days row column c l) ∙ ap (rowReads row (at u (u .days) row column)) (same .ratings row column c l))
+      ap (among k)
+      (row-same (row - firstAt t column) _ _ _ (same .days row column c l) ∙ (rw (same .ratings row column c l, same .firsts column c)))
 
   column-read : (column : ℕ) → column < t .columns → some (λ row. rowOf t row column) (steps column) ≡ some (λ row. rowOf u row column) (steps′ column)
   column-read column c =
@@ -81,14 +91,15 @@ module _ (t : Table) (steps : ℕ → ℕ) (refusal : ℕ) (accepted : eqb refus
   reads-20 = rw accepted
 
   pub reads-row : (k row column : ℕ) → column < t .columns → row < steps column →
-      among k (rowReads row (at t (t .days) row column) (at t (t .ratings) row column)) ≡ true → callReads refusal t steps k ≡ true
+      among k (rowReads (row - firstAt t column) (at t (t .days) row column) (at t (t .ratings) row column)) ≡ true →
+      callReads refusal t steps k ≡ true
   unfolding callReads stepsRead
   reads-row k row column c l e = rw accepted (or-true (eqb k 20) _ (some-of _ (t .columns) column c (some-of _ (steps column) row l e)))
 
   -- two weight sets that agree on what the call reads agree on what each step reads
   pub agree-row :
       (w v : List Float) → ((k : ℕ) → callReads refusal t steps k ≡ true → w ! k ≡ v ! k) → (p : RuntimeParams) (row column : ℕ) → column < t .columns → row < steps column →
-      Agree (stepReads (stateAt p (history t column) row) (at t (t .days) row column) (at t (t .ratings) row column) row) w v
+      Agree (stepReads (stateAt p (history t column) row) (at t (t .days) row column) (at t (t .ratings) row column) (row - firstAt t column)) w v
   agree-row w v h p row column c l k e =
       h k (reads-row k row column c l (subst (λ (ks : List ℕ). among k ks ≡ true) (reads-are p (history t column) row _ _) e))
 
@@ -100,7 +111,8 @@ module _ (t : Table) (steps : ℕ → ℕ) (refusal : ℕ) (accepted : eqb refus
     no-steps : stepsRead t steps k ≡ false
     no-steps = or-right (eqb k 20) (stepsRead t steps k) neither
 
-    row-unread : (row column : ℕ) → column < t .columns → row < steps column → among k (rowReads row (at t (t .days) row column) (at t (t .ratings) row column)) ≡ false
+    row-unread : (row column : ℕ) → column < t .columns → row < steps column →
+        among k (rowReads (row - firstAt t column) (at t (t .days) row column) (at t (t .ratings) row column)) ≡ false
     unfolding stepsRead
     row-unread row column c l = none-of _ (steps column) (none-of _ (t .columns) no-steps column c) row l
 

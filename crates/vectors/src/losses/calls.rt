@@ -1,4 +1,5 @@
-// The four entries on a call's slices. An entry leaves out what it does not take.
+// The entries on a call's slices: 0 to 3, and 4 to 7 for histories that stand at the end. An entry leaves out what it does not
+// take.
 use crate::patterns::u32_of;
 use crate::slices::first_of;
 use crate::slices::length_at;
@@ -6,9 +7,14 @@ use crate::slices::set_lengths;
 use crate::slices::set_singles;
 use analytic_v6::answers::Loss;
 use analytic_v6::cards::grad::card_loss_and_grad;
+use analytic_v6::cards::grad::card_loss_and_grad_in;
 use analytic_v6::cards::loss::card_loss;
+use analytic_v6::cards::loss::card_loss_in;
 use analytic_v6::prefixes::grad::batch_loss_and_grad;
+use analytic_v6::prefixes::grad::batch_loss_and_grad_in;
 use analytic_v6::prefixes::loss::batch_loss;
+use analytic_v6::prefixes::loss::batch_loss_in;
+use checks::align::Align;
 
 // Where a call's slices stand, and what follows them.
 pub struct Places {
@@ -26,6 +32,76 @@ fn first_lengths(xs: &[u32], n: usize) -> &[u32] {
         return &xs[0..n];
     }
     xs
+}
+
+fn entry_at_end(
+    letter: u8,
+    w: &[f32],
+    days: &[f32],
+    ratings: &[f32],
+    rows: u32,
+    columns: u32,
+    lengths: &[u32],
+    targets: &[f32],
+    labels: &[f32],
+    weights: &[f32],
+    slots: &mut [f64],
+    records: &mut [f32],
+    grads: &mut [f64],
+) -> Loss {
+    match letter {
+        b'4' => batch_loss_and_grad_in(
+            Align::End,
+            w,
+            days,
+            ratings,
+            rows,
+            columns,
+            lengths,
+            targets,
+            labels,
+            weights,
+            slots,
+            records,
+        ),
+        b'5' => batch_loss_in(
+            Align::End,
+            w,
+            days,
+            ratings,
+            rows,
+            columns,
+            lengths,
+            targets,
+            labels,
+            weights,
+        ),
+        b'6' => card_loss_and_grad_in(
+            Align::End,
+            w,
+            days,
+            ratings,
+            rows,
+            columns,
+            lengths,
+            labels,
+            weights,
+            slots,
+            records,
+            grads,
+        ),
+        _ => card_loss_in(
+            Align::End,
+            w,
+            days,
+            ratings,
+            rows,
+            columns,
+            lengths,
+            labels,
+            weights,
+        ),
+    }
 }
 
 fn entry(
@@ -81,7 +157,22 @@ fn entry(
             records,
             grads,
         ),
-        _ => card_loss(w, days, ratings, rows, columns, lengths, labels, weights),
+        b'3' => card_loss(w, days, ratings, rows, columns, lengths, labels, weights),
+        _ => entry_at_end(
+            letter,
+            w,
+            days,
+            ratings,
+            rows,
+            columns,
+            lengths,
+            targets,
+            labels,
+            weights,
+            slots,
+            records,
+            grads,
+        ),
     }
 }
 

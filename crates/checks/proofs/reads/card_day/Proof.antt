@@ -6,9 +6,6 @@ use Rattle.checks.proofs.reads.card_day.Tie as tie
 is-later-requires : tie.Need-is-later-requires
 is-later-requires c κs = search needs
 
-is-last-requires : tie.Need-is-last-requires
-is-last-requires c κs = search needs
-
 is-nonzero-requires : tie.Need-is-nonzero-requires
 is-nonzero-requires c κs = search needs
 
@@ -26,16 +23,14 @@ unfolding cardDay
 returns c =
     let at-is-nonzero2 = c .before .before in
     let at-is-nonzero = at-is-nonzero2 .before in
-    let at-is-last = at-is-nonzero .before in
-    let at-is-later = at-is-last .before in
-    rw (c .both .ensures, c .before .pick .ensures, at-is-nonzero2 .is-nonzero2 .ensures, at-is-nonzero .is-nonzero .ensures, at-is-last .is-last .ensures, at-is-later .is-later .ensures)
+    let at-is-later = at-is-nonzero .before in
+    rw (c .both .ensures, c .before .pick .ensures, at-is-nonzero2 .is-nonzero2 .ensures, at-is-nonzero .is-nonzero .ensures, at-is-later .is-later .ensures)
 
 pub card-day-spec : {M : Type 1} → statement M
 card-day-spec =
     tie.close
     (tie.spec
     is-later-requires
-    is-last-requires
     is-nonzero-requires
     is-nonzero-requires-2
     pick-requires

@@ -3,8 +3,8 @@ use borrow.Author.Needs.{needs}
 use Rattle.checks.proofs.reads.card_row.Statement.{statement}
 use Rattle.checks.proofs.reads.card_row.Tie as tie
 
-is-last-requires : tie.Need-is-last-requires
-is-last-requires c κs = search needs
+either-requires : tie.Need-either-requires
+either-requires c κs = search needs
 
 is-rating-requires : tie.Need-is-rating-requires
 is-rating-requires c κs = search needs
@@ -39,14 +39,14 @@ returns c =
     let at-card-day = at-is-day .before in
     let at-check = at-card-day .before in
     let at-is-rating = at-check .before in
-    let at-is-last = at-is-rating .before in
-    rw (c .first2 .ensures, c .before .first .ensures, at-card-score .card-score .ensures, at-check2 .check2 .ensures, at-is-day .is-day .ensures, at-card-day .card-day .ensures, at-check .check .ensures, at-is-rating .is-rating .ensures, at-is-last .is-last .ensures)
+    let at-either = at-is-rating .before in
+    rw (c .first2 .ensures, c .before .first .ensures, at-card-score .card-score .ensures, at-check2 .check2 .ensures, at-is-day .is-day .ensures, at-card-day .card-day .ensures, at-check .check .ensures, at-is-rating .is-rating .ensures, at-either .either .ensures)
 
 pub card-row-spec : {M : Type 1} → statement M
 card-row-spec =
     tie.close
     (tie.spec
-    is-last-requires
+    either-requires
     is-rating-requires
     check-requires
     card-day-requires

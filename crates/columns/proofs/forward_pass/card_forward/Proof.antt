@@ -3,18 +3,19 @@ use mathlib.Core.Path.{_≡_, refl}
 use native.Mathlib.Omega.{arith}
 use borrow.Author.Needs.{needs}
 use Rattle.forward.specs.Step.{noState}
-use Rattle.checks.specs.Batch.{historyOf, view}
+use Rattle.checks.specs.Align.{weighed}
+use Rattle.checks.specs.Batch.{historyOf, view, weightsOf}
 use Rattle.columns.specs.ForwardPass.{stateAt, lossAt, runAt}
 use Rattle.columns.proofs.Turns.{next-state, next-record, next-score, next-loss}
 use Rattle.columns.proofs.forward_pass.card_forward.Statement.{statement}
 use Rattle.columns.proofs.forward_pass.card_forward.Tie as tie
 
 abbrev Inv-loop : tie.InvT-loop
-Inv-loop p t-hist r-hist batch labels weights column n q₀ loss₀ i₀ q loss i =
-    (i ≤ n) × (n < 2 ^ 32) × (q ≡ stateAt p (historyOf t-hist r-hist batch column) i) × (loss ≡ lossAt p (historyOf t-hist r-hist batch column) (view labels batch column) (view weights batch column) i)
+Inv-loop p align t-hist r-hist batch labels weights column first n q₀ loss₀ i₀ q loss i =
+    (i ≤ n) × (n < 2 ^ 32) × (q ≡ stateAt p (historyOf t-hist r-hist batch column first) i) × (loss ≡ lossAt p (historyOf t-hist r-hist batch column first) (view labels batch column) (weightsOf align r-hist weights batch column) i)
 
 abbrev μ-loop : tie.MeasureT-loop
-μ-loop p t-hist r-hist batch labels weights column n q₀ loss₀ i₀ q loss i = n - i
+μ-loop p align t-hist r-hist batch labels weights column first n q₀ loss₀ i₀ q loss i = n - i
 
 loop-holds : tie.Need-loop-holds Inv-loop μ-loop
 unfolding stateAt noState lossAt
@@ -29,11 +30,8 @@ read-requires c κs = search needs
 read-requires-2 : tie.Need-read-requires-2 Inv-loop μ-loop
 read-requires-2 c κs = search needs
 
-read-requires-3 : tie.Need-read-requires-3 Inv-loop μ-loop
-read-requires-3 c κs = search needs
-
-read-requires-4 : tie.Need-read-requires-4 Inv-loop μ-loop
-read-requires-4 c κs = search needs
+row-from-requires : tie.Need-row-from-requires Inv-loop μ-loop
+row-from-requires c κs = search needs
 
 cast-step-forward : tie.Need-cast-step-forward Inv-loop μ-loop
 cast-step-forward c = search needs
@@ -41,12 +39,24 @@ cast-step-forward c = search needs
 step-forward-requires : tie.Need-step-forward-requires Inv-loop μ-loop
 step-forward-requires c κs = search needs
 
+counts-at-requires : tie.Need-counts-at-requires Inv-loop μ-loop
+counts-at-requires c κs = search needs
+
+read-requires-3 : tie.Need-read-requires-3 Inv-loop μ-loop
+read-requires-3 c κs = search needs
+
+read-requires-4 : tie.Need-read-requires-4 Inv-loop μ-loop
+read-requires-4 c κs = search needs
+
 row-score-requires : tie.Need-row-score-requires Inv-loop μ-loop
 row-score-requires c κs = search needs
 
+carried-requires : tie.Need-carried-requires Inv-loop μ-loop
+carried-requires c κs = search needs
+
 add-i : tie.Need-add-i Inv-loop μ-loop
 add-i c =
-    let at-loop-test = c .before .before .before .before .before .before .before .before .before .before in
+    let at-loop-test = c .before .before .before .before .before .before .before .before .before .before .before .before in
     let at-loop = at-loop-test .before in
     record { fits = omega (arith, at-loop-test .loop-test .taken, at-loop .loop .inv .1) }
 
@@ -54,12 +64,15 @@ loop-less : tie.Need-loop-less Inv-loop μ-loop
 loop-less c = search needs
 
 loop-again : tie.Need-loop-again Inv-loop μ-loop
+unfolding weighed
 loop-again c =
     let at-row-score = c .before .before in
-    let at-step-forward = at-row-score .before .before in
-    let at-read4 = at-step-forward .before in
+    let at-read4 = at-row-score .before in
     let at-read3 = at-read4 .before in
-    let at-read2 = at-read3 .before in
+    let at-counts-at = at-read3 .before in
+    let at-step-forward = at-counts-at .before .before in
+    let at-row-from = at-step-forward .before in
+    let at-read2 = at-row-from .before in
     let at-read = at-read2 .before in
     let at-cell-of = at-read .before in
     let at-loop = at-cell-of .before .before in
@@ -67,9 +80,10 @@ loop-again c =
     let r = at-step-forward .step-forward .result in (
       search needs,
       l .inv .1,
-      next-state _ _ (l .i) (l .q) r (l .inv .2) (rw (at-step-forward .step-forward .ensures, at-read2 .read2 .ensures, at-read .read .ensures, at-cell-of .cell-of .ensures)),
+      next-state _ _ (l .i) (l .q) r _ (l .inv .2) (rw (at-step-forward .step-forward .ensures, at-row-from .row-from .ensures, at-read2 .read2 .ensures, at-read .read .ensures, at-cell-of .cell-of .ensures)) (c .carried .ensures),
       next-loss _ _ _ _ (l .i) _ _ (l .inv .3)
-          (next-score _ _ _ _ (l .i) (r .step) (at-row-score .row-score .result) (next-record _ _ (l .i) (l .q) r (l .inv .2) (rw (at-step-forward .step-forward .ensures, at-read2 .read2 .ensures, at-read .read .ensures, at-cell-of .cell-of .ensures))) (rw (at-row-score .row-score .ensures, at-read4 .read4 .ensures, at-read3 .read3 .ensures, at-cell-of .cell-of .ensures))),
+          (next-score _ _ _ _ (l .i) (r .step) (at-row-score .row-score .result) (next-record _ _ (l .i) (l .q) r (l .inv .2) (rw (at-step-forward .step-forward .ensures, at-row-from .row-from .ensures, at-read2 .read2 .ensures, at-read .read .ensures, at-cell-of .cell-of .ensures)))
+          (rw (at-row-score .row-score .ensures, at-row-from .row-from .ensures, at-counts-at .counts-at .ensures, at-read4 .read4 .ensures, at-read3 .read3 .ensures, at-cell-of .cell-of .ensures))),
     )
 
 returns : tie.Need-returns Inv-loop μ-loop
@@ -90,11 +104,14 @@ card-forward-spec =
     cell-of-requires
     read-requires
     read-requires-2
-    read-requires-3
-    read-requires-4
+    row-from-requires
     cast-step-forward
     step-forward-requires
+    counts-at-requires
+    read-requires-3
+    read-requires-4
     row-score-requires
+    carried-requires
     add-i
     loop-less
     loop-again

@@ -4,19 +4,20 @@ use native.Mathlib.Omega.{arith}
 use borrow.Author.Needs.{needs}
 use lib.ListN.{length}
 use Rattle.forward.specs.Step.{noState}
-use Rattle.checks.specs.Batch.{historyOf, view}
+use Rattle.checks.specs.Align.{weighed}
+use Rattle.checks.specs.Batch.{historyOf, view, weightsOf}
 use Rattle.columns.specs.ForwardPass.{stateAt, storedDef, lossAt, runAt, gradsDef}
 use Rattle.columns.proofs.Turns.{next-state, next-record, next-stored, next-score, next-loss, next-grads}
 use Rattle.columns.proofs.forward_pass.card_forward_recorded.Statement.{statement}
 use Rattle.columns.proofs.forward_pass.card_forward_recorded.Tie as tie
 
 abbrev Inv-loop : tie.InvT-loop
-Inv-loop p t-hist r-hist batch labels weights column n records₀ step-grads₀ q₀ loss₀ i₀ records step-grads q loss i =
-    (i ≤ n) × (n < 2 ^ 32) × (length records ≡ length records₀) × (length step-grads ≡ length step-grads₀) × (q ≡ stateAt p (historyOf t-hist r-hist batch column) i) × (loss ≡ lossAt p (historyOf t-hist r-hist batch column) (view labels batch column) (view weights batch column) i) ×
-    (records ≡ storedDef p (historyOf t-hist r-hist batch column) i records₀) × (step-grads ≡ gradsDef p (historyOf t-hist r-hist batch column) (view labels batch column) (view weights batch column) i step-grads₀)
+Inv-loop p align t-hist r-hist batch labels weights column first n records₀ step-grads₀ q₀ loss₀ i₀ records step-grads q loss i =
+    (i ≤ n) × (n < 2 ^ 32) × (length records ≡ length records₀) × (length step-grads ≡ length step-grads₀) × (q ≡ stateAt p (historyOf t-hist r-hist batch column first) i) × (loss ≡ lossAt p (historyOf t-hist r-hist batch column first) (view labels batch column) (weightsOf align r-hist weights batch column) i) ×
+    (records ≡ storedDef p (historyOf t-hist r-hist batch column first) i records₀) × (step-grads ≡ gradsDef p (historyOf t-hist r-hist batch column first) (view labels batch column) (weightsOf align r-hist weights batch column) i step-grads₀)
 
 abbrev μ-loop : tie.MeasureT-loop
-μ-loop p t-hist r-hist batch labels weights column n records₀ step-grads₀ q₀ loss₀ i₀ records step-grads q loss i = n - i
+μ-loop p align t-hist r-hist batch labels weights column first n records₀ step-grads₀ q₀ loss₀ i₀ records step-grads q loss i = n - i
 
 loop-holds : tie.Need-loop-holds Inv-loop μ-loop
 unfolding stateAt noState lossAt storedDef gradsDef
@@ -31,17 +32,23 @@ read-requires c κs = search needs
 read-requires-2 : tie.Need-read-requires-2 Inv-loop μ-loop
 read-requires-2 c κs = search needs
 
-read-requires-3 : tie.Need-read-requires-3 Inv-loop μ-loop
-read-requires-3 c κs = search needs
-
-read-requires-4 : tie.Need-read-requires-4 Inv-loop μ-loop
-read-requires-4 c κs = search needs
+row-from-requires : tie.Need-row-from-requires Inv-loop μ-loop
+row-from-requires c κs = search needs
 
 cast-step-forward : tie.Need-cast-step-forward Inv-loop μ-loop
 cast-step-forward c = search needs
 
 step-forward-requires : tie.Need-step-forward-requires Inv-loop μ-loop
 step-forward-requires c κs = search needs
+
+counts-at-requires : tie.Need-counts-at-requires Inv-loop μ-loop
+counts-at-requires c κs = search needs
+
+read-requires-3 : tie.Need-read-requires-3 Inv-loop μ-loop
+read-requires-3 c κs = search needs
+
+read-requires-4 : tie.Need-read-requires-4 Inv-loop μ-loop
+read-requires-4 c κs = search needs
 
 row-score-requires : tie.Need-row-score-requires Inv-loop μ-loop
 row-score-requires c κs = search needs
@@ -51,43 +58,58 @@ store-step-requires c κs = search needs
 
 cast-write-f64 : tie.Need-cast-write-f64 Inv-loop μ-loop
 cast-write-f64 c =
-    let at-loop-test = c .before .before .before .before .before .before .before .before .before .before .before .before .before in
+    let at-loop-test = c .before .before .before .before .before .before .before .before .before .before .before .before .before .before .before in
     let at-loop = at-loop-test .before in
     record { fits = omega (arith, at-loop-test .loop-test .taken, at-loop .loop .inv .1) }
 
 write-f64-requires : tie.Need-write-f64-requires Inv-loop μ-loop
 write-f64-requires c κs = search needs
 
+carried-requires : tie.Need-carried-requires Inv-loop μ-loop
+carried-requires c κs = search needs
+
 add-i : tie.Need-add-i Inv-loop μ-loop
 add-i c =
-    let at-loop-test = c .before .before .before .before .before .before .before .before .before .before .before .before .before .before .before .before .before .before in
+    let at-loop-test = c .before .before .before .before .before .before .before .before .before .before .before .before .before .before .before .before .before .before .before .before in
     let at-loop = at-loop-test .before in
     record { fits = omega (arith, at-loop-test .loop-test .taken, at-loop .loop .inv .1) }
 
 loop-less : tie.Need-loop-less Inv-loop μ-loop
-loop-less c = search needs
+loop-less c =
+    let at-loop-test = c .before .before .before .before .before .before .before .before .before .before .before .before .before .before .before .before .before .before .before .before in
+    omega (arith, at-loop-test .loop-test .taken)
 
 loop-again : tie.Need-loop-again Inv-loop μ-loop
+unfolding weighed
 loop-again c =
-    let at-step = c .before .before .before .before .before .before .before .before .before .before .before .before in
-    let l = at-step .before .before .before .before .before .before .before .loop in
-    let r = at-step .step-forward .result in
-    let a = at-step .before .before .before .before .before .before .before .before .before .before .before .before .before .before .args in
-    let p = a .p in
-    let days = a .«t-hist» .now in
-    let ratings = a .«r-hist» .now in
-    let batch = a .batch in
-    let column = a .column in
-    let rec = next-record p (historyOf days ratings batch column) (l .i) (l .q) r (l .inv .4) (rw (at-step .step-forward .ensures, at-step .before .before .before .read2 .ensures, at-step .before .before .before .before .read .ensures, at-step .before .before .before .before .before .cell-of .ensures)) in
-    let score = next-score p (historyOf days ratings batch column) (view (a .labels .now) batch column) (view (a .weights .now) batch column) (l .i) (r .step) (c .before .before .before .before .before .before .before .before .before .before .row-score .result) rec (rw (c .before .before .before .before .before .before .before .before .before .before .row-score .ensures, at-step .before .read4 .ensures, at-step .before .before .read3 .ensures, at-step .before .before .before .before .before .cell-of .ensures)) in (
-      omega (arith, at-step .before .before .before .before .before .before .loop-test .taken),
+    let at-write-f64 = c .before .before .before .before in
+    let at-store-step = at-write-f64 .before .before .before .before in
+    let at-row-score = at-store-step .before .before in
+    let at-read4 = at-row-score .before in
+    let at-read3 = at-read4 .before in
+    let at-counts-at = at-read3 .before in
+    let at-step-forward = at-counts-at .before .before in
+    let at-row-from = at-step-forward .before in
+    let at-read2 = at-row-from .before in
+    let at-read = at-read2 .before in
+    let at-cell-of = at-read .before in
+    let at-loop-test = at-cell-of .before in
+    let l = at-loop-test .before .loop in
+    let r = at-step-forward .step-forward .result in
+    let a = at-loop-test .before .before .before .before .before .before .before .before .args in
+    let hist = historyOf (a .«t-hist» .now) (a .«r-hist» .now) (a .batch) (a .column) (a .first) in
+    let labels = view (a .labels .now) (a .batch) (a .column) in
+    let weights = weightsOf (a .align) (a .«r-hist» .now) (a .weights .now) (a .batch) (a .column) in
+    let rec = next-record (a .p) hist (l .i) (l .q) r (l .inv .4) (rw (at-step-forward .step-forward .ensures, at-row-from .row-from .ensures, at-read2 .read2 .ensures, at-read .read .ensures, at-cell-of .cell-of .ensures)) in
+    let score = next-score (a .p) hist labels weights (l .i) (r .step) (at-row-score .row-score .result) rec (rw (at-row-score .row-score .ensures, at-row-from .row-from .ensures, at-counts-at .counts-at .ensures, at-read4 .read4 .ensures, at-read3 .read3 .ensures, at-cell-of .cell-of .ensures)) in (
+      omega (arith, at-loop-test .loop-test .taken),
       l .inv .1,
       search needs,
       search needs,
-      next-state _ _ (l .i) (l .q) r (l .inv .4) (rw (at-step .step-forward .ensures, at-step .before .before .before .read2 .ensures, at-step .before .before .before .before .read .ensures, at-step .before .before .before .before .before .cell-of .ensures)),
+      next-state _ _ (l .i) (l .q) r _ (l .inv .4) (rw (at-step-forward .step-forward .ensures, at-row-from .row-from .ensures, at-read2 .read2 .ensures, at-read .read .ensures, at-cell-of .cell-of .ensures)) (c .carried .ensures),
       next-loss _ _ _ _ (l .i) _ _ (l .inv .5) score,
-      c .before .before .before .before .before .before .before .before .store-step .ensures ∙ next-stored _ _ (l .i) _ _ _ (l .inv .6) rec,
-      c .before .before .before .before .write-f64 .ensures ∙ next-grads _ _ _ _ (l .i) _ _ _ (l .inv .7) score,
+      at-store-step .store-step .ensures ∙ next-stored _ _ (l .i) _ _ _ (l .inv .6) rec,
+      at-write-f64 .write-f64 .ensures ∙ next-grads _ _ _ _ (l .i) _ _ _ (l .inv .7) score,
     )
 
 same-length : tie.Need-same-length Inv-loop μ-loop
@@ -114,14 +136,17 @@ card-forward-recorded-spec =
     cell-of-requires
     read-requires
     read-requires-2
-    read-requires-3
-    read-requires-4
+    row-from-requires
     cast-step-forward
     step-forward-requires
+    counts-at-requires
+    read-requires-3
+    read-requires-4
     row-score-requires
     store-step-requires
     cast-write-f64
     write-f64-requires
+    carried-requires
     add-i
     loop-less
     loop-again

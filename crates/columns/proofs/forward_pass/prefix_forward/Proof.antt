@@ -1,5 +1,5 @@
 use Prim.Native.Nat.{_≤_, _-_}
-use mathlib.Core.Path.{_≡_, refl, _∙_}
+use mathlib.Core.Path.{_≡_, refl}
 use native.Mathlib.Omega.{arith}
 use borrow.Author.Needs.{needs}
 use Rattle.forward.specs.Step.{noState}
@@ -10,10 +10,10 @@ use Rattle.columns.proofs.forward_pass.prefix_forward.Statement.{statem
 use Rattle.columns.proofs.forward_pass.prefix_forward.Tie as tie
 
 abbrev Inv-loop : tie.InvT-loop
-Inv-loop p t-hist r-hist batch column n q₀ i₀ q i = (i ≤ n) × (q ≡ stateAt p (historyOf t-hist r-hist batch column) i)
+Inv-loop p t-hist r-hist batch column first n q₀ i₀ q i = (i ≤ n) × (q ≡ stateAt p (historyOf t-hist r-hist batch column first) i)
 
 abbrev μ-loop : tie.MeasureT-loop
-μ-loop p t-hist r-hist batch column n q₀ i₀ q i = n - i
+μ-loop p t-hist r-hist batch column first n q₀ i₀ q i = n - i
 
 loop-holds : tie.Need-loop-holds Inv-loop μ-loop
 unfolding stateAt noState
@@ -28,11 +28,17 @@ read-requires c κs = search needs
 read-requires-2 : tie.Need-read-requires-2 Inv-loop μ-loop
 read-requires-2 c κs = search needs
 
+row-from-requires : tie.Need-row-from-requires Inv-loop μ-loop
+row-from-requires c κs = search needs
+
 cast-step-forward : tie.Need-cast-step-forward Inv-loop μ-loop
 cast-step-forward c = search needs
 
 step-forward-requires : tie.Need-step-forward-requires Inv-loop μ-loop
 step-forward-requires c κs = search needs
+
+carried-requires : tie.Need-carried-requires Inv-loop μ-loop
+carried-requires c κs = search needs
 
 add-i : tie.Need-add-i Inv-loop μ-loop
 add-i c = search needs
@@ -42,12 +48,14 @@ loop-less c = search needs
 
 loop-again : tie.Need-loop-again Inv-loop μ-loop
 loop-again c =
-    let at-read2 = c .before .before in
+    let at-step-forward = c .before in
+    let at-row-from = at-step-forward .before in
+    let at-read2 = at-row-from .before in
     let at-read = at-read2 .before in
     let at-cell-of = at-read .before in
     let at-loop = at-cell-of .before .before in
     let l = at-loop .loop in
-    (search needs, next-state _ _ (l .i) (l .q) (c .before .step-forward .result) (l .inv .1) (rw (c .before .step-forward .ensures, at-read2 .read2 .ensures, at-read .read .ensures, at-cell-of .cell-of .ensures)))
+    (search needs, next-state _ _ (l .i) (l .q) (at-step-forward .step-forward .result) _ (l .inv .1) (rw (at-step-forward .step-forward .ensures, at-row-from .row-from .ensures, at-read2 .read2 .ensures, at-read .read .ensures, at-cell-of .cell-of .ensures)) (c .carried .ensures))
 
 returns : tie.Need-returns Inv-loop μ-loop
 returns c =
@@ -66,8 +74,10 @@ prefix-forward-spec =
     cell-of-requires
     read-requires
     read-requires-2
+    row-from-requires
     cast-step-forward
     step-forward-requires
+    carried-requires
     add-i
     loop-less
     loop-again

@@ -2,7 +2,7 @@ use Prim.Native.Nat.{_≤_, _-_}
 use mathlib.Core.Path.{_≡_, refl}
 use native.Mathlib.Omega.{arith}
 use borrow.Author.Needs.{needs}
-use Rattle.checks.specs.Batch.{cardsOf}
+use Rattle.checks.specs.Batch.{cardsIn}
 use native.Mathlib.Nat.{le-trans}
 use lib.ListN.{length}
 use Rattle.checks.proofs.Longer.{under-longest}
@@ -13,13 +13,13 @@ use Rattle.analytic_v6.proofs.cards.grad.batch_total_and_grad.Statement
 use Rattle.analytic_v6.proofs.cards.grad.batch_total_and_grad.Tie as tie
 
 abbrev Inv-loop : tie.InvT-loop
-Inv-loop p t-hist r-hist seq-len batch seq-lens labels weights gw₀ records₀ step-grads₀ loss₀ c₀ gw records step-grads loss c =
+Inv-loop p align t-hist r-hist seq-len batch seq-lens labels weights gw₀ records₀ step-grads₀ loss₀ c₀ gw records step-grads loss c =
     (c ≤ batch) × (length gw ≡ length gw₀) × (length records ≡ length records₀) × (length step-grads ≡ length step-grads₀) ×
-    (loss ≡ total (cardLoss p (cardsOf t-hist r-hist seq-len batch seq-lens labels weights)) c) × (gw ≡ through (cardSlots p (cardsOf t-hist r-hist seq-len batch seq-lens labels weights)) c gw₀) × (records ≡ through (cardRecords p (cardsOf t-hist r-hist seq-len batch seq-lens labels weights)) c records₀) ×
-    (step-grads ≡ through (cardGrads p (cardsOf t-hist r-hist seq-len batch seq-lens labels weights)) c step-grads₀)
+    (loss ≡ total (cardLoss p (cardsIn align t-hist r-hist seq-len batch seq-lens labels weights)) c) × (gw ≡ through (cardSlots p (cardsIn align t-hist r-hist seq-len batch seq-lens labels weights)) c gw₀) × (records ≡ through (cardRecords p (cardsIn align t-hist r-hist seq-len batch seq-lens labels weights)) c records₀) ×
+    (step-grads ≡ through (cardGrads p (cardsIn align t-hist r-hist seq-len batch seq-lens labels weights)) c step-grads₀)
 
 abbrev μ-loop : tie.MeasureT-loop
-μ-loop p t-hist r-hist seq-len batch seq-lens labels weights gw₀ records₀ step-grads₀ loss₀ c₀ gw records step-grads loss c = batch - c
+μ-loop p align t-hist r-hist seq-len batch seq-lens labels weights gw₀ records₀ step-grads₀ loss₀ c₀ gw records step-grads loss c = batch - c
 
 loop-holds : tie.Need-loop-holds Inv-loop μ-loop
 loop-holds c = (search needs, refl, refl, refl, no-total _, none-through _ _, none-through _ _, none-through _ _)

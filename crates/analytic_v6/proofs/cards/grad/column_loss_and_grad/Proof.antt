@@ -16,6 +16,9 @@ returns c =
 sub-m : tie.Need-sub-m
 sub-m c = search needs
 
+first-review-requires : tie.Need-first-review-requires
+first-review-requires c κs = search needs
+
 card-forward-recorded-requires : tie.Need-card-forward-recorded-requires
 card-forward-recorded-requires c κs = search needs
 
@@ -28,8 +31,11 @@ read-requires c κs = search needs
 read-requires-2 : tie.Need-read-requires-2
 read-requires-2 c κs = search needs
 
-read-requires-3 : tie.Need-read-requires-3
-read-requires-3 c κs = search needs
+weight-at-requires : tie.Need-weight-at-requires
+weight-at-requires c κs = search needs
+
+row-from-requires : tie.Need-row-from-requires
+row-from-requires c κs = search needs
 
 cast-write-f64 : tie.Need-cast-write-f64
 cast-write-f64 c = search needs
@@ -57,22 +63,25 @@ returns-2 c =
     let at-column-backward = c .before .before in
     let at-last-end = at-column-backward .before .before .before .before .before .before in
     let at-write-f64 = at-last-end .before .before .before .before in
-    let at-read3 = at-write-f64 .before .before in
-    let at-read2 = at-read3 .before in
+    let at-row-from = at-write-f64 .before .before in
+    let at-weight-at = at-row-from .before in
+    let at-read2 = at-weight-at .before in
     let at-read = at-read2 .before in
     let at-cell-of = at-read .before in
     let at-card-forward-recorded = at-cell-of .before .before .before .before .before .before in
-    let at-if1 = at-card-forward-recorded .before .before .before in
+    let at-first-review = at-card-forward-recorded .before .before .before in
+    let at-if1 = at-first-review .before in
     let at-cut-length = at-if1 .before in
     let at-pre = at-cut-length .before .before .before .before .before .before .before .before .before in
     let e = at-cut-length .cut-length .ensures in
     let h = at-if1 .if1 .left in
+    let f = at-first-review .first-review .ensures in
     let r = at-card-forward-recorded .card-forward-recorded .ensures in (
-      (rw (at-last-end .last-end .ensures .0) (loss-of _ _ _ _ e h (at-card-forward-recorded .card-forward-recorded .result) _ _ _ (at-card-forward-recorded .card-forward-recorded .ensures .0) (rw (at-read .read .ensures, at-cell-of .cell-of .ensures)) (rw (at-read2 .read2 .ensures, at-cell-of .cell-of .ensures)) (rw (at-read3 .read3 .ensures, at-cell-of .cell-of .ensures)))),
+      (rw (at-last-end .last-end .ensures .0) (loss-of _ _ _ _ e h _ f (at-card-forward-recorded .card-forward-recorded .result) _ _ _ _ (at-row-from .row-from .ensures) (at-card-forward-recorded .card-forward-recorded .ensures .0) (rw (at-read .read .ensures, at-cell-of .cell-of .ensures)) (rw (at-read2 .read2 .ensures, at-cell-of .cell-of .ensures)) (rw (at-weight-at .weight-at .ensures, at-cell-of .cell-of .ensures)))),
       (rw (at-column-backward .column-backward .ensures, at-last-end .last-end .ensures .0, at-last-end .last-end .ensures .1, at-write-f64 .write-f64 .ensures, r .1, r .2)
-          (slots-of _ _ _ _ e h (at-card-forward-recorded .card-forward-recorded .result) _ _ _ (at-card-forward-recorded .card-forward-recorded .ensures .0) (rw (at-read .read .ensures, at-cell-of .cell-of .ensures)) (rw (at-read2 .read2 .ensures, at-cell-of .cell-of .ensures)) (rw (at-read3 .read3 .ensures, at-cell-of .cell-of .ensures)) _ _ _ (at-pre .pre .0) (at-pre .pre .1))),
-      r .1 ∙ records-of _ _ _ _ e h _,
-      (rw (at-write-f64 .write-f64 .ensures, r .2) (grads-of _ _ _ _ e h _)),
+          (slots-of _ _ _ _ e h _ f (at-card-forward-recorded .card-forward-recorded .result) _ _ _ _ (at-row-from .row-from .ensures) (at-card-forward-recorded .card-forward-recorded .ensures .0) (rw (at-read .read .ensures, at-cell-of .cell-of .ensures)) (rw (at-read2 .read2 .ensures, at-cell-of .cell-of .ensures)) (rw (at-weight-at .weight-at .ensures, at-cell-of .cell-of .ensures)) _ _ _ (at-pre .pre .0) (at-pre .pre .1))),
+      r .1 ∙ records-of _ _ _ _ e h _ f _,
+      (rw (at-write-f64 .write-f64 .ensures, r .2) (grads-of _ _ _ _ e h _ f _)),
     )
 
 pub column-loss-and-grad-spec : {M : Type 1} → statement M
@@ -82,11 +91,13 @@ column-loss-and-grad-spec =
     cut-length-requires
     returns
     sub-m
+    first-review-requires
     card-forward-recorded-requires
     cell-of-requires
     read-requires
     read-requires-2
-    read-requires-3
+    weight-at-requires
+    row-from-requires
     cast-write-f64
     write-f64-requires
     last-end-requires

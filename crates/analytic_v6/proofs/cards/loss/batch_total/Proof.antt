@@ -2,7 +2,7 @@ use Prim.Native.Nat.{_≤_, _-_}
 use mathlib.Core.Path.{_≡_}
 use native.Mathlib.Omega.{arith}
 use borrow.Author.Needs.{needs}
-use Rattle.checks.specs.Batch.{cardsOf}
+use Rattle.checks.specs.Batch.{cardsIn}
 use Rattle.checks.specs.Columns.{total}
 use Rattle.checks.proofs.tables.Columns.{no-total, next-total, all-total}
 use Rattle.analytic_v6.specs.Cards.{cardLoss}
@@ -10,10 +10,10 @@ use Rattle.analytic_v6.proofs.cards.loss.batch_total.Statement.{stateme
 use Rattle.analytic_v6.proofs.cards.loss.batch_total.Tie as tie
 
 abbrev Inv-loop : tie.InvT-loop
-Inv-loop p t-hist r-hist seq-len batch seq-lens labels weights loss₀ c₀ loss c = (c ≤ batch) × (loss ≡ total (cardLoss p (cardsOf t-hist r-hist seq-len batch seq-lens labels weights)) c)
+Inv-loop p align t-hist r-hist seq-len batch seq-lens labels weights loss₀ c₀ loss c = (c ≤ batch) × (loss ≡ total (cardLoss p (cardsIn align t-hist r-hist seq-len batch seq-lens labels weights)) c)
 
 abbrev μ-loop : tie.MeasureT-loop
-μ-loop p t-hist r-hist seq-len batch seq-lens labels weights loss₀ c₀ loss c = batch - c
+μ-loop p align t-hist r-hist seq-len batch seq-lens labels weights loss₀ c₀ loss c = batch - c
 
 loop-holds : tie.Need-loop-holds Inv-loop μ-loop
 loop-holds c = (search needs, no-total _)

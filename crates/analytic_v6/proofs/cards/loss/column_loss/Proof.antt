@@ -13,6 +13,9 @@ returns c = empty-loss _ _ _ _ (c .before .cut-length .ensures) (c .if1 .taken)
 sub-m : tie.Need-sub-m
 sub-m c = search needs
 
+first-review-requires : tie.Need-first-review-requires
+first-review-requires c κs = search needs
+
 card-forward-requires : tie.Need-card-forward-requires
 card-forward-requires c κs = search needs
 
@@ -25,22 +28,28 @@ read-requires c κs = search needs
 read-requires-2 : tie.Need-read-requires-2
 read-requires-2 c κs = search needs
 
-read-requires-3 : tie.Need-read-requires-3
-read-requires-3 c κs = search needs
+weight-at-requires : tie.Need-weight-at-requires
+weight-at-requires c κs = search needs
+
+row-from-requires : tie.Need-row-from-requires
+row-from-requires c κs = search needs
 
 last-loss-requires : tie.Need-last-loss-requires
 last-loss-requires c κs = search needs
 
 returns-2 : tie.Need-returns-2
 returns-2 c =
-    let at-read2 = c .before .before in
+    let at-row-from = c .before in
+    let at-weight-at = at-row-from .before in
+    let at-read2 = at-weight-at .before in
     let at-read = at-read2 .before in
     let at-cell-of = at-read .before in
     let at-card-forward = at-cell-of .before .before in
-    let at-if1 = at-card-forward .before in
+    let at-first-review = at-card-forward .before in
+    let at-if1 = at-first-review .before in
     let at-cut-length = at-if1 .before in
     c .last-loss .ensures ∙
-    loss-of _ _ _ _ (at-cut-length .cut-length .ensures) (at-if1 .if1 .left) (at-card-forward .card-forward .result) _ _ _ (at-card-forward .card-forward .ensures) (rw (at-read .read .ensures, at-cell-of .cell-of .ensures)) (rw (at-read2 .read2 .ensures, at-cell-of .cell-of .ensures)) (rw (c .before .read3 .ensures, at-cell-of .cell-of .ensures))
+    loss-of _ _ _ _ (at-cut-length .cut-length .ensures) (at-if1 .if1 .left) _ (at-first-review .first-review .ensures) (at-card-forward .card-forward .result) _ _ _ _ (at-row-from .row-from .ensures) (at-card-forward .card-forward .ensures) (rw (at-read .read .ensures, at-cell-of .cell-of .ensures)) (rw (at-read2 .read2 .ensures, at-cell-of .cell-of .ensures)) (rw (at-weight-at .weight-at .ensures, at-cell-of .cell-of .ensures))
 
 pub column-loss-spec : {M : Type 1} → statement M
 column-loss-spec =
@@ -49,10 +58,12 @@ column-loss-spec =
     cut-length-requires
     returns
     sub-m
+    first-review-requires
     card-forward-requires
     cell-of-requires
     read-requires
     read-requires-2
-    read-requires-3
+    weight-at-requires
+    row-from-requires
     last-loss-requires
     returns-2)

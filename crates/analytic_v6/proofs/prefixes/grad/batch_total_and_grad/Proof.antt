@@ -2,7 +2,7 @@ use Prim.Native.Nat.{_≤_, _-_}
 use mathlib.Core.Path.{_≡_, refl}
 use native.Mathlib.Omega.{arith}
 use borrow.Author.Needs.{needs}
-use Rattle.checks.specs.Batch.{prefixesOf}
+use Rattle.checks.specs.Batch.{prefixesIn}
 use native.Mathlib.Nat.{le-trans}
 use lib.ListN.{length}
 use Rattle.checks.proofs.Longer.{under-longest}
@@ -13,12 +13,12 @@ use Rattle.analytic_v6.proofs.prefixes.grad.batch_total_and_grad.Statem
 use Rattle.analytic_v6.proofs.prefixes.grad.batch_total_and_grad.Tie as tie
 
 abbrev Inv-loop : tie.InvT-loop
-Inv-loop p t-hist r-hist seq-len batch seq-lens delta-ts labels weights gw₀ records₀ loss₀ c₀ gw records loss c =
-    (c ≤ batch) × (length gw ≡ length gw₀) × (length records ≡ length records₀) × (loss ≡ total (prefixLoss p (prefixesOf t-hist r-hist seq-len batch seq-lens delta-ts labels weights)) c) ×
-    (gw ≡ through (prefixSlots p (prefixesOf t-hist r-hist seq-len batch seq-lens delta-ts labels weights)) c gw₀) × (records ≡ through (prefixRecords p (prefixesOf t-hist r-hist seq-len batch seq-lens delta-ts labels weights)) c records₀)
+Inv-loop p align t-hist r-hist seq-len batch seq-lens delta-ts labels weights gw₀ records₀ loss₀ c₀ gw records loss c =
+    (c ≤ batch) × (length gw ≡ length gw₀) × (length records ≡ length records₀) × (loss ≡ total (prefixLoss p (prefixesIn align t-hist r-hist seq-len batch seq-lens delta-ts labels weights)) c) ×
+    (gw ≡ through (prefixSlots p (prefixesIn align t-hist r-hist seq-len batch seq-lens delta-ts labels weights)) c gw₀) × (records ≡ through (prefixRecords p (prefixesIn align t-hist r-hist seq-len batch seq-lens delta-ts labels weights)) c records₀)
 
 abbrev μ-loop : tie.MeasureT-loop
-μ-loop p t-hist r-hist seq-len batch seq-lens delta-ts labels weights gw₀ records₀ loss₀ c₀ gw records loss c = batch - c
+μ-loop p align t-hist r-hist seq-len batch seq-lens delta-ts labels weights gw₀ records₀ loss₀ c₀ gw records loss c = batch - c
 
 loop-holds : tie.Need-loop-holds Inv-loop μ-loop
 loop-holds c = (search needs, refl, refl, no-total _, none-through _ _, none-through _ _)

@@ -9,6 +9,9 @@ use Rattle.analytic_v6.proofs.prefixes.grad.column_loss_and_grad.Tie as
 cut-length-requires : tie.Need-cut-length-requires
 cut-length-requires c κs = search needs
 
+first-review-requires : tie.Need-first-review-requires
+first-review-requires c κs = search needs
+
 prefix-forward-recorded-requires : tie.Need-prefix-forward-recorded-requires
 prefix-forward-recorded-requires c κs = search needs
 
@@ -20,6 +23,9 @@ read-requires-2 c κs = search needs
 
 read-requires-3 : tie.Need-read-requires-3
 read-requires-3 c κs = search needs
+
+target-weight-requires : tie.Need-target-weight-requires
+target-weight-requires c κs = search needs
 
 target-end-requires : tie.Need-target-end-requires
 target-end-requires c κs = search needs
@@ -40,16 +46,18 @@ returns : tie.Need-returns
 returns c =
     let at-column-backward = c .before .before in
     let at-target-end = at-column-backward .before .before .before .before .before .before in
-    let at-read3 = at-target-end .before .before in
+    let at-target-weight = at-target-end .before .before in
+    let at-read3 = at-target-weight .before in
     let at-read2 = at-read3 .before in
     let at-read = at-read2 .before in
     let at-prefix-forward-recorded = at-read .before .before .before in
-    let at-cut-length = at-prefix-forward-recorded .before .before in
+    let at-first-review = at-prefix-forward-recorded .before .before in
+    let at-cut-length = at-first-review .before in
     let at-pre = at-cut-length .before .before .before .before .before .before .before .before .before in (
-      (rw (at-target-end .target-end .ensures .0) (loss-of _ _ _ _ (at-cut-length .cut-length .ensures) _ _ _ _ (at-prefix-forward-recorded .prefix-forward-recorded .ensures .0) (at-read .read .ensures) (at-read2 .read2 .ensures) (at-read3 .read3 .ensures))),
+      (rw (at-target-end .target-end .ensures .0) (loss-of _ _ _ _ _ (at-cut-length .cut-length .ensures) (at-first-review .first-review .ensures) _ _ _ _ (at-prefix-forward-recorded .prefix-forward-recorded .ensures .0) (at-read .read .ensures) (at-read2 .read2 .ensures) (rw (at-target-weight .target-weight .ensures, at-read3 .read3 .ensures)))),
       (rw (at-column-backward .column-backward .ensures, at-target-end .target-end .ensures .0, at-target-end .target-end .ensures .1, at-prefix-forward-recorded .prefix-forward-recorded .ensures .1)
-          (slots-of _ _ _ _ (at-cut-length .cut-length .ensures) _ _ _ _ (at-prefix-forward-recorded .prefix-forward-recorded .ensures .0) (at-read .read .ensures) (at-read2 .read2 .ensures) (at-read3 .read3 .ensures) _ _ (zero64 ∷ []) (at-pre .pre) unscored)),
-      at-prefix-forward-recorded .prefix-forward-recorded .ensures .1 ∙ records-of _ _ _ _ (at-cut-length .cut-length .ensures) _,
+          (slots-of _ _ _ _ _ (at-cut-length .cut-length .ensures) (at-first-review .first-review .ensures) _ _ _ _ (at-prefix-forward-recorded .prefix-forward-recorded .ensures .0) (at-read .read .ensures) (at-read2 .read2 .ensures) (rw (at-target-weight .target-weight .ensures, at-read3 .read3 .ensures)) _ _ (zero64 ∷ []) (at-pre .pre) unscored)),
+      at-prefix-forward-recorded .prefix-forward-recorded .ensures .1 ∙ records-of _ _ _ _ _ (at-cut-length .cut-length .ensures) (at-first-review .first-review .ensures) _,
     )
 
 pub column-loss-and-grad-spec : {M : Type 1} → statement M
@@ -57,10 +65,12 @@ column-loss-and-grad-spec =
     tie.close
     (tie.spec
     cut-length-requires
+    first-review-requires
     prefix-forward-recorded-requires
     read-requires
     read-requires-2
     read-requires-3
+    target-weight-requires
     target-end-requires
     slice-aggregate-column-backward
     column-backward-requires

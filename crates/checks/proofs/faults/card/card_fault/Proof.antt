@@ -2,18 +2,18 @@ use Prim.Native.Nat.{_≤_, _-_}
 use mathlib.Core.Path.{_≡_, _∙_}
 use native.Mathlib.Omega.{arith}
 use borrow.Author.Needs.{needs}
-use Rattle.checks.specs.Batch.{cardsOf}
+use Rattle.checks.specs.Batch.{cardsIn}
 use Rattle.checks.specs.Faults.{noFault, firstFault, cardColumn, cardFault}
 use Rattle.checks.proofs.faults.Rows.{cards-blank, columns-none, columns-more, columns-hit, columns-end}
 use Rattle.checks.proofs.faults.card.card_fault.Statement.{statement}
 use Rattle.checks.proofs.faults.card.card_fault.Tie as tie
 
 abbrev Inv-loop : tie.InvT-loop
-Inv-loop t-hist r-hist seq-len batch seq-lens labels weights c₀ c =
-    (c ≤ batch) × (firstFault (cardColumn (cardsOf t-hist r-hist seq-len batch seq-lens labels weights)) c ≡ noFault)
+Inv-loop align t-hist r-hist seq-len batch seq-lens labels weights c₀ c =
+    (c ≤ batch) × (firstFault (cardColumn (cardsIn align t-hist r-hist seq-len batch seq-lens labels weights)) c ≡ noFault)
 
 abbrev μ-loop : tie.MeasureT-loop
-μ-loop t-hist r-hist seq-len batch seq-lens labels weights c₀ c = batch - c
+μ-loop align t-hist r-hist seq-len batch seq-lens labels weights c₀ c = batch - c
 
 loop-holds : tie.Need-loop-holds Inv-loop μ-loop
 loop-holds c = (search needs, columns-none _ (cards-blank _))

@@ -3,19 +3,24 @@ use mathlib.Core.Path.{_≡_, _∙_}
 use native.Mathlib.Omega.{arith}
 use borrow.Author.Needs.{needs}
 use Rattle.checks.specs.Faults.{noFault, rowsFault}
-use Rattle.checks.specs.Batch.{view, historyOf}
-use Rattle.checks.specs.Reads.{cardRow}
+use Rattle.checks.specs.Batch.{view, historyOf, weightsOf}
+use Rattle.checks.specs.Reads.{isLast, cardRow}
+use Rattle.checks.specs.Align.{isEnd}
 use Rattle.checks.proofs.faults.Rows.{rows-none, rows-more, rows-hit, rows-end}
 use Rattle.checks.proofs.faults.card.card_rows.Statement.{statement}
 use Rattle.checks.proofs.faults.card.card_rows.Tie as tie
 
 abbrev Inv-loop : tie.InvT-loop
-Inv-loop t-hist r-hist batch labels weights column n i₀ i =
-    let h = historyOf t-hist r-hist batch column in
-    (i ≤ n) × (rowsFault (λ row. cardRow n row (h .day row) (h .rating row) (view weights batch column row) (view labels batch column row)) column i ≡ noFault)
+Inv-loop align t-hist r-hist batch labels weights column first n end i₀ i =
+    let h = historyOf t-hist r-hist batch column first in
+    (i ≤ n) ×
+    (rowsFault (λ row. cardRow (isEnd align) (isLast n row) (row - first) (h .day row) (h .rating row) (weightsOf align r-hist weights batch column row) (view labels batch column row)) column i ≡ noFault)
 
 abbrev μ-loop : tie.MeasureT-loop
-μ-loop t-hist r-hist batch labels weights column n i₀ i = n - i
+μ-loop align t-hist r-hist batch labels weights column first n end i₀ i = n - i
+
+is-end-requires : tie.Need-is-end-requires Inv-loop μ-loop
+is-end-requires c κs = search needs
 
 loop-holds : tie.Need-loop-holds Inv-loop μ-loop
 loop-holds c = (search needs, rows-none _ _)
@@ -29,25 +34,34 @@ read-requires c κs = search needs
 read-requires-2 : tie.Need-read-requires-2 Inv-loop μ-loop
 read-requires-2 c κs = search needs
 
+weight-at-requires : tie.Need-weight-at-requires Inv-loop μ-loop
+weight-at-requires c κs = search needs
+
 read-requires-3 : tie.Need-read-requires-3 Inv-loop μ-loop
 read-requires-3 c κs = search needs
 
-read-requires-4 : tie.Need-read-requires-4 Inv-loop μ-loop
-read-requires-4 c κs = search needs
+is-last-requires : tie.Need-is-last-requires Inv-loop μ-loop
+is-last-requires c κs = search needs
+
+row-from-requires : tie.Need-row-from-requires Inv-loop μ-loop
+row-from-requires c κs = search needs
 
 card-row-requires : tie.Need-card-row-requires Inv-loop μ-loop
 card-row-requires c κs = search needs
 
 returns : tie.Need-returns Inv-loop μ-loop
 returns c =
-    let at-read4 = c .before .before in
-    let at-read3 = at-read4 .before in
-    let at-read2 = at-read3 .before in
+    let at-row-from = c .before .before in
+    let at-is-last = at-row-from .before in
+    let at-read3 = at-is-last .before in
+    let at-weight-at = at-read3 .before in
+    let at-read2 = at-weight-at .before in
     let at-read = at-read2 .before in
     let at-cell-of = at-read .before in
     let at-before = at-cell-of .before in
     let a = at-before .before in
-    rows-hit _ _ (a .loop .i) _ (c .before .card-row .result) (at-before .loop-test .taken) (a .loop .inv .1) (rw (c .before .card-row .ensures, at-read4 .read4 .ensures, at-read3 .read3 .ensures, at-read2 .read2 .ensures, at-read .read .ensures, at-cell-of .cell-of .ensures)) (c .if1 .taken)
+    let at-is-end = a .before in
+    rows-hit _ _ (a .loop .i) _ (c .before .card-row .result) (at-before .loop-test .taken) (a .loop .inv .1) (rw (c .before .card-row .ensures, at-row-from .row-from .ensures, at-is-last .is-last .ensures, at-read3 .read3 .ensures, at-weight-at .weight-at .ensures, at-read2 .read2 .ensures, at-read .read .ensures, at-cell-of .cell-of .ensures, at-is-end .is-end .ensures)) (c .if1 .taken)
 
 add-i : tie.Need-add-i Inv-loop μ-loop
 add-i c = search needs
@@ -57,14 +71,17 @@ loop-less c = search needs
 
 loop-again : tie.Need-loop-again Inv-loop μ-loop
 loop-again c =
-    let at-read4 = c .before .before in
-    let at-read3 = at-read4 .before in
-    let at-read2 = at-read3 .before in
+    let at-row-from = c .before .before in
+    let at-is-last = at-row-from .before in
+    let at-read3 = at-is-last .before in
+    let at-weight-at = at-read3 .before in
+    let at-read2 = at-weight-at .before in
     let at-read = at-read2 .before in
     let at-cell-of = at-read .before in
     let at-before = at-cell-of .before in
     let a = at-before .before in
-    (search needs, rows-more _ _ (a .loop .i) (c .before .card-row .result) (a .loop .inv .1) (rw (c .before .card-row .ensures, at-read4 .read4 .ensures, at-read3 .read3 .ensures, at-read2 .read2 .ensures, at-read .read .ensures, at-cell-of .cell-of .ensures)) (c .if1 .left))
+    let at-is-end = a .before in
+    (search needs, rows-more _ _ (a .loop .i) (c .before .card-row .result) (a .loop .inv .1) (rw (c .before .card-row .ensures, at-row-from .row-from .ensures, at-is-last .is-last .ensures, at-read3 .read3 .ensures, at-weight-at .weight-at .ensures, at-read2 .read2 .ensures, at-read .read .ensures, at-cell-of .cell-of .ensures, at-is-end .is-end .ensures)) (c .if1 .left))
 
 no-fault-requires : tie.Need-no-fault-requires Inv-loop μ-loop
 no-fault-requires c κs = search needs
@@ -72,7 +89,7 @@ no-fault-requires c κs = search needs
 returns-2 : tie.Need-returns-2 Inv-loop μ-loop
 returns-2 c =
     let at-loop = c .before .before in
-    let at-args = at-loop .before .before .before .before .before in
+    let at-args = at-loop .before .before .before .before .before .before in
     let l = at-loop .loop in
     let e : l .i ≡ at-args .args .n = omega (arith, l .inv .0, c .before .loop-test .left) in
     c .no-fault .ensures ∙ rows-end _ _ _ _ e (l .inv .1)
@@ -83,12 +100,15 @@ card-rows-spec =
     (tie.spec
     Inv-loop
     μ-loop
+    is-end-requires
     loop-holds
     cell-of-requires
     read-requires
     read-requires-2
+    weight-at-requires
     read-requires-3
-    read-requires-4
+    is-last-requires
+    row-from-requires
     card-row-requires
     returns
     add-i

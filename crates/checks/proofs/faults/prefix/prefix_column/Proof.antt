@@ -13,6 +13,9 @@ returns : tie.Need-returns
 unfolding prefixColumn
 returns c = rw (← c .before .cut-length .ensures, eq-eqb _ 0 (c .if1 .taken))
 
+first-review-requires : tie.Need-first-review-requires
+first-review-requires c κs = search needs
+
 prefix-rows-requires : tie.Need-prefix-rows-requires
 prefix-rows-requires c κs = search needs
 
@@ -20,9 +23,10 @@ returns-2 : tie.Need-returns-2
 unfolding prefixColumn
 returns-2 c =
     let at-prefix-rows = c .before .before in
-    let at-if1 = at-prefix-rows .before in
+    let at-first-review = at-prefix-rows .before in
+    let at-if1 = at-first-review .before in
     let at-cut-length = at-if1 .before in
-    rw (← at-cut-length .cut-length .ensures, ne-eqb _ 0 (at-if1 .if1 .left), ← at-prefix-rows .prefix-rows .ensures) (sym (else-found _ _ (c .if2 .taken)))
+    rw (← at-cut-length .cut-length .ensures, ne-eqb _ 0 (at-if1 .if1 .left), ← at-first-review .first-review .ensures, ← at-prefix-rows .prefix-rows .ensures) (sym (else-found _ _ (c .if2 .taken)))
 
 prefix-target-requires : tie.Need-prefix-target-requires
 prefix-target-requires c κs = search needs
@@ -31,9 +35,10 @@ returns-3 : tie.Need-returns-3
 unfolding prefixColumn
 returns-3 c =
     let at-prefix-rows = c .before .before .before in
-    let at-if1 = at-prefix-rows .before in
+    let at-first-review = at-prefix-rows .before in
+    let at-if1 = at-first-review .before in
     let at-cut-length = at-if1 .before in
-    rw (← at-cut-length .cut-length .ensures, ne-eqb _ 0 (at-if1 .if1 .left), ← at-prefix-rows .prefix-rows .ensures) (c .prefix-target .ensures ∙ sym (else-none _ _ (c .before .if2 .left)))
+    rw (← at-cut-length .cut-length .ensures, ne-eqb _ 0 (at-if1 .if1 .left), ← at-first-review .first-review .ensures, ← at-prefix-rows .prefix-rows .ensures) (c .prefix-target .ensures ∙ sym (else-none _ _ (c .before .if2 .left)))
 
 pub prefix-column-spec : {M : Type 1} → statement M
 prefix-column-spec =
@@ -41,6 +46,7 @@ prefix-column-spec =
     (tie.spec
     cut-length-requires
     returns
+    first-review-requires
     prefix-rows-requires
     returns-2
     prefix-target-requires

@@ -2,18 +2,18 @@ use Prim.Native.Nat.{_≤_, _-_}
 use mathlib.Core.Path.{_≡_, _∙_}
 use native.Mathlib.Omega.{arith}
 use borrow.Author.Needs.{needs}
-use Rattle.checks.specs.Batch.{prefixesOf}
+use Rattle.checks.specs.Batch.{prefixesIn}
 use Rattle.checks.specs.Faults.{noFault, firstFault, prefixColumn, prefixFault}
 use Rattle.checks.proofs.faults.Rows.{prefixes-blank, columns-none, columns-more, columns-hit, columns-end}
 use Rattle.checks.proofs.faults.prefix.prefix_fault.Statement.{statement}
 use Rattle.checks.proofs.faults.prefix.prefix_fault.Tie as tie
 
 abbrev Inv-loop : tie.InvT-loop
-Inv-loop t-hist r-hist seq-len batch seq-lens delta-ts labels weights c₀ c =
-    (c ≤ batch) × (firstFault (prefixColumn (prefixesOf t-hist r-hist seq-len batch seq-lens delta-ts labels weights)) c ≡ noFault)
+Inv-loop align t-hist r-hist seq-len batch seq-lens delta-ts labels weights c₀ c =
+    (c ≤ batch) × (firstFault (prefixColumn (prefixesIn align t-hist r-hist seq-len batch seq-lens delta-ts labels weights)) c ≡ noFault)
 
 abbrev μ-loop : tie.MeasureT-loop
-μ-loop t-hist r-hist seq-len batch seq-lens delta-ts labels weights c₀ c = batch - c
+μ-loop align t-hist r-hist seq-len batch seq-lens delta-ts labels weights c₀ c = batch - c
 
 loop-holds : tie.Need-loop-holds Inv-loop μ-loop
 loop-holds c = (search needs, columns-none _ (prefixes-blank _))

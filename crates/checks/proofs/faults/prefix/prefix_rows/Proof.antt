@@ -9,10 +9,10 @@ use Rattle.checks.proofs.faults.prefix.prefix_rows.Statement.{statement
 use Rattle.checks.proofs.faults.prefix.prefix_rows.Tie as tie
 
 abbrev Inv-loop : tie.InvT-loop
-Inv-loop t-hist r-hist batch column n i₀ i = (i ≤ n) × (prefixRows (historyOf t-hist r-hist batch column) column i ≡ noFault)
+Inv-loop t-hist r-hist batch column first n i₀ i = (i ≤ n) × (prefixRows (historyOf t-hist r-hist batch column first) column i ≡ noFault)
 
 abbrev μ-loop : tie.MeasureT-loop
-μ-loop t-hist r-hist batch column n i₀ i = n - i
+μ-loop t-hist r-hist batch column first n i₀ i = n - i
 
 loop-holds : tie.Need-loop-holds Inv-loop μ-loop
 loop-holds c = (search needs, rows-none _ _)
@@ -26,17 +26,21 @@ read-requires c κs = search needs
 read-requires-2 : tie.Need-read-requires-2 Inv-loop μ-loop
 read-requires-2 c κs = search needs
 
+row-from-requires : tie.Need-row-from-requires Inv-loop μ-loop
+row-from-requires c κs = search needs
+
 prefix-row-requires : tie.Need-prefix-row-requires Inv-loop μ-loop
 prefix-row-requires c κs = search needs
 
 returns : tie.Need-returns Inv-loop μ-loop
 returns c =
-    let at-read2 = c .before .before in
+    let at-row-from = c .before .before in
+    let at-read2 = at-row-from .before in
     let at-read = at-read2 .before in
     let at-cell-of = at-read .before in
     let at-before = at-cell-of .before in
     let a = at-before .before in
-    rows-hit _ _ (a .loop .i) _ (c .before .prefix-row .result) (at-before .loop-test .taken) (a .loop .inv .1) (rw (c .before .prefix-row .ensures, at-read2 .read2 .ensures, at-read .read .ensures, at-cell-of .cell-of .ensures)) (c .if1 .taken)
+    rows-hit _ _ (a .loop .i) _ (c .before .prefix-row .result) (at-before .loop-test .taken) (a .loop .inv .1) (rw (c .before .prefix-row .ensures, at-row-from .row-from .ensures, at-read2 .read2 .ensures, at-read .read .ensures, at-cell-of .cell-of .ensures)) (c .if1 .taken)
 
 add-i : tie.Need-add-i Inv-loop μ-loop
 add-i c = search needs
@@ -46,12 +50,13 @@ loop-less c = search needs
 
 loop-again : tie.Need-loop-again Inv-loop μ-loop
 loop-again c =
-    let at-read2 = c .before .before in
+    let at-row-from = c .before .before in
+    let at-read2 = at-row-from .before in
     let at-read = at-read2 .before in
     let at-cell-of = at-read .before in
     let at-before = at-cell-of .before in
     let a = at-before .before in
-    (search needs, rows-more _ _ (a .loop .i) (c .before .prefix-row .result) (a .loop .inv .1) (rw (c .before .prefix-row .ensures, at-read2 .read2 .ensures, at-read .read .ensures, at-cell-of .cell-of .ensures)) (c .if1 .left))
+    (search needs, rows-more _ _ (a .loop .i) (c .before .prefix-row .result) (a .loop .inv .1) (rw (c .before .prefix-row .ensures, at-row-from .row-from .ensures, at-read2 .read2 .ensures, at-read .read .ensures, at-cell-of .cell-of .ensures)) (c .if1 .left))
 
 no-fault-requires : tie.Need-no-fault-requires Inv-loop μ-loop
 no-fault-requires c κs = search needs
@@ -74,6 +79,7 @@ prefix-rows-spec =
     cell-of-requires
     read-requires
     read-requires-2
+    row-from-requires
     prefix-row-requires
     returns
     add-i

@@ -2,8 +2,8 @@ use Rattle.analytic_v6.proofs.Answer.{answer-refused, answer-accepted, 
 use Rattle.analytic_v6.proofs.cards.Entry.{grad-weights, grad-room}
 use Rattle.analytic_v6.specs.Cards.{cardsLossAndGrad, cardsSlots, cardsRecords, cardsGrads}
 use borrow.Author.Needs.{needs}
-use Rattle.analytic_v6.proofs.cards.grad.card_loss_and_grad.Statement.{statement}
-use Rattle.analytic_v6.proofs.cards.grad.card_loss_and_grad.Tie as tie
+use Rattle.analytic_v6.proofs.cards.grad.card_loss_and_grad_in.Statement.{statement}
+use Rattle.analytic_v6.proofs.cards.grad.card_loss_and_grad_in.Tie as tie
 
 room-requires : tie.Need-room-requires
 room-requires c κs = search needs
@@ -66,8 +66,8 @@ returns-2 c =
       ),
     )
 
-pub card-loss-and-grad-spec : {M : Type 1} → statement M
-card-loss-and-grad-spec =
+pub card-loss-and-grad-in-spec : {M : Type 1} → statement M
+card-loss-and-grad-in-spec =
     tie.close
     (tie.spec
     room-requires

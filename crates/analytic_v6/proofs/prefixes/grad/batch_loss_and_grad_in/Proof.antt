@@ -2,8 +2,8 @@ use Rattle.analytic_v6.proofs.Answer.{answer-refused, answer-accepted, 
 use Rattle.analytic_v6.proofs.prefixes.Entry.{grad-weights, grad-room}
 use Rattle.analytic_v6.specs.Prefixes.{batchLossAndGrad, batchSlots, batchRecords}
 use borrow.Author.Needs.{needs}
-use Rattle.analytic_v6.proofs.prefixes.grad.batch_loss_and_grad.Statement.{statement}
-use Rattle.analytic_v6.proofs.prefixes.grad.batch_loss_and_grad.Tie as tie
+use Rattle.analytic_v6.proofs.prefixes.grad.batch_loss_and_grad_in.Statement.{statement}
+use Rattle.analytic_v6.proofs.prefixes.grad.batch_loss_and_grad_in.Tie as tie
 
 room-requires : tie.Need-room-requires
 room-requires c κs = search needs
@@ -62,8 +62,8 @@ returns-2 c =
       ),
     )
 
-pub batch-loss-and-grad-spec : {M : Type 1} → statement M
-batch-loss-and-grad-spec =
+pub batch-loss-and-grad-in-spec : {M : Type 1} → statement M
+batch-loss-and-grad-in-spec =
     tie.close
     (tie.spec
     room-requires

@@ -2,8 +2,8 @@ use Rattle.analytic_v6.proofs.Answer.{answer-refused, answer-accepted, 
 use Rattle.analytic_v6.proofs.cards.Entry.{loss-weights}
 use Rattle.analytic_v6.specs.Cards.{cardsLoss}
 use borrow.Author.Needs.{needs}
-use Rattle.analytic_v6.proofs.cards.loss.card_loss.Statement.{statement}
-use Rattle.analytic_v6.proofs.cards.loss.card_loss.Tie as tie
+use Rattle.analytic_v6.proofs.cards.loss.card_loss_in.Statement.{statement}
+use Rattle.analytic_v6.proofs.cards.loss.card_loss_in.Tie as tie
 
 card-loss-refusal-requires : tie.Need-card-loss-refusal-requires
 card-loss-refusal-requires c κs = search needs
@@ -31,8 +31,8 @@ returns-2 c =
     let z = at-if1 .if1 .left in
     rw (c .batch-total .ensures, c .before .runtime-params .ensures, copied _ _ (loss-weights _ _ _ z e) (at-copy-weights .copy-weights .ensures)) (answer-accepted _ _ e _ z)
 
-pub card-loss-spec : {M : Type 1} → statement M
-card-loss-spec =
+pub card-loss-in-spec : {M : Type 1} → statement M
+card-loss-in-spec =
     tie.close
     (tie.spec
     card-loss-refusal-requires
