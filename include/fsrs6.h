@@ -5,8 +5,8 @@
  * through the places lent to it. A refused call writes nothing. A slice is a pointer and the number of its entries.
  *
  * A card begins with its first review, whose rating alone gives its state: fsrs_first_state. Every later review is a call of
- * fsrs_next_state on the state before it, and after each fsrs_next_interval tells when to show the card again.
- * examples/new_card.c does this.
+ * fsrs_next_state_on, which is told its day and the day on which the card was last seen, or of fsrs_next_state, which is told
+ * the days between. After each fsrs_next_interval tells when to show the card again. examples/first.c does this.
  *
  * What C cannot check is the caller's: a pointer is not NULL and is aligned, also where the number of entries is 0; it has
  * as many entries as said; what a call writes overlaps nothing else that was lent to it; and the thread's floats are as C
@@ -49,7 +49,8 @@ enum {
     FSRS_FILE = 11,          /* a malformed batch file */
     FSRS_FILLING_COUNT = 12, /* a weight set to fill has not 0, 17, 19 or 21 entries */
     FSRS_SCALAR = 13,        /* an argument of a formula or of a single step */
-    FSRS_IMPORT = 14         /* a card from SM-2 gets no finite state, as by a retention not inside 0..1 */
+    FSRS_IMPORT = 14,        /* a card from SM-2 gets no finite state, as by a retention not inside 0..1 */
+    FSRS_EARLIER = 15        /* a review on an earlier day than the one on which the card was last seen */
 };
 
 /* A refusal in words, for a log or a message. */
@@ -70,6 +71,7 @@ static inline const char *fsrs_refusal_text(uint32_t number) {
         "a weight set to fill has not 0, 17, 19 or 21 entries",
         "an argument is not finite or out of range",
         "a card from SM-2 gets no finite stability or difficulty",
+        "the day is earlier than the one on which the card was last seen",
     };
     return number < sizeof texts / sizeof *texts ? texts[number] : "no refusal has this number";
 }
@@ -80,7 +82,8 @@ enum {
     FSRS_MAX_ROWS = 2048,
     FSRS_MAX_COLUMNS = 512,
     FSRS_FILE_BYTES = 65536, /* the longest batch file */
-    FSRS_FILE_ROWS = 512
+    FSRS_FILE_ROWS = 512,
+    FSRS_MAX_DAY = 100000    /* the last day number */
 };
 
 /* ---- ranges. Both ends belong to a range, a decimal is the single nearest to it, and a zero of either sign is 0.
@@ -106,6 +109,7 @@ enum {
  *     rating                 1        4         1 forgotten, 2 hard, 3 good, 4 easy; in a history also 0, padding; whole
  *     label                  0        1         1 where it was recalled, 0 where not
  *     review weight          0        1000000   how much it counts in a loss
+ *     day number             0        100000    of a calendar that counts whole days from a day of the caller's choice
  *
  * A memory state: the stability is from 0.0001 to 36500, the difficulty from 1 to 10.
  */
@@ -158,6 +162,12 @@ uint32_t fsrs_first_state(const float *w, size_t w_len, uint32_t rating, float *
  * is no new card but one of stability 0.0001. Any rating is taken, and clamped to 1-4. */
 uint32_t fsrs_next_state(const float *w, size_t w_len, float stability, float difficulty, float delta_t, uint32_t rating,
                          float *next_stability, float *next_difficulty);
+/* The same for a card that was last seen on the day `seen` and is reviewed on `day`, two day numbers: delta_t is their
+ * difference, 0 on the same day, and the card is then last seen on `day`. 13 also where either is over 100000, then 15 where
+ * `day` is the earlier. The three places may be the variables that hold the card: a refused call writes nothing, and so
+ * leaves the given state in them. */
+uint32_t fsrs_next_state_on(const float *w, size_t w_len, float stability, float difficulty, uint32_t seen, uint32_t day,
+                            uint32_t rating, float *next_stability, float *next_difficulty, uint32_t *next_seen);
 /* The state of a card from an SM-2 deck, by its ease factor, its interval in days, and the share of the deck's reviews
  * that were recalled (0.9, not 90). The stability is not clamped. Also refusal 14. */
 uint32_t fsrs_memory_state_from_sm2(const float *w, size_t w_len, float ease_factor, float interval, float sm2_retention,

@@ -4,14 +4,13 @@ These are functions over the shared library of `include/fsrs6.h`, one for each o
 and its batch tells the mode (`end`). ctypes is all that they need. A call answers, or raises the `Refusal` by which it was refused
 and has then written nothing.
 
->>> from fsrs6 import State, check_and_fill_parameters, next_interval, next_state
+>>> from fsrs6 import Seen, check_and_fill_parameters, first_state, next_interval, next_state_on
 >>> w = check_and_fill_parameters([])  # the default weights
->>> state = State(stability=5, difficulty=6)
->>> after = next_state(w, state, 4, 3)  # rated 3 after four days
->>> after.stability > state.stability
-True
->>> next_interval(w, after.stability, 0.9) > 5
-True
+>>> card = Seen(first_state(w, 3), 19000)  # a new card, rated 3 on its first day
+>>> for day, rating in [(19002, 3), (19013, 1), (19013, 3)]:
+...     card = next_state_on(w, card, day, rating)
+>>> card.day, next_interval(w, card.state.stability, 0.9) > 1  # seen when, and the days to its next review
+(19013, True)
 
 **Numbers.** Where C takes a single, a number is first rounded to the nearest one. Whole numbers that C's types cannot hold are an
 OverflowError, for C would take them for others.
@@ -45,14 +44,15 @@ Lent = Union[List[float], Buffer]  # what is written
 
 __all__ = [
     "load", "Refusal", "REFUSALS", "WEIGHTS", "RECORD", "MAX_ROWS", "MAX_COLUMNS", "FILE_BYTES", "FILE_ROWS",
+    "MAX_DAY",
     "RECORD_STABILITY", "RECORD_DIFFICULTY", "RECORD_DAY", "RECORD_RATING", "RECORD_RETRIEVABILITY", "RECORD_PRE_STABILITY",
     "RECORD_PRE_DIFFICULTY", "RECORD_BRANCH", "RECORD_BRANCH_RAW", "RECORD_BRANCH_OTHER", "BRANCH_PADDING", "BRANCH_FIRST",
     "BRANCH_SAME_DAY", "BRANCH_SAME_DAY_ONE", "BRANCH_LAPSE", "BRANCH_LAPSE_FLOORED", "BRANCH_SUCCESS",
-    "State", "Step", "Stepped", "StateGradient", "Prefixes", "Cards", "Gradient",
+    "State", "Seen", "Step", "Stepped", "StateGradient", "Prefixes", "Cards", "Gradient",
     "exp_f32", "exp_f64", "expm1_f32", "ln_f32", "ln_f64", "pow_f32", "pow_f64", "fma_f32", "fma_f64", "round_f32", "round_f64",
     "check_and_fill_parameters", "power_forgetting_curve", "next_interval", "init_difficulty", "mean_reversion", "next_difficulty",
     "stability_after_success", "stability_after_failure", "stability_short_term", "first_state", "next_state",
-    "memory_state_from_sm2",
+    "next_state_on", "memory_state_from_sm2",
     "training_step", "training_step_backward", "batch_loss", "batch_loss_and_grad", "card_loss", "card_loss_and_grad", "batch_file",
 ]
 
@@ -62,6 +62,7 @@ MAX_ROWS = 2048  # of a loss call
 MAX_COLUMNS = 512
 FILE_BYTES = 65536  # the longest batch file
 FILE_ROWS = 512
+MAX_DAY = 100000  # the last day number
 
 # What a step's record holds, in this order, and the branch that a step took: as include/fsrs6.h has them.
 (
@@ -88,6 +89,7 @@ REFUSALS = {
     12: ("FillingCount", "a weight set to fill has not 0, 17, 19 or 21 entries"),
     13: ("Scalar", "an argument is not finite or out of range"),
     14: ("Import", "a card from SM-2 gets no finite stability or difficulty"),
+    15: ("Earlier", "the day is earlier than the one on which the card was last seen"),
 }
 
 
@@ -118,6 +120,13 @@ class State(NamedTuple):
 
     stability: float = 0.0  # the days after which the probability of recall is 0.9
     difficulty: float = 0.0  # from 1, easy, to 10
+
+
+class Seen(NamedTuple):
+    """A card's state, and when it was last seen."""
+
+    state: State = State()
+    day: int = 0  # from 0 to MAX_DAY, on a calendar that counts whole days from any day
 
 
 class Step(NamedTuple):
@@ -229,6 +238,7 @@ _CALLS = {
     "stability_short_term": "w:[f] s:f rating:I > f",
     "first_state": "w:[f] rating:I > f f",
     "next_state": "w:[f] stability:f difficulty:f delta_t:f rating:I > f f",
+    "next_state_on": "w:[f] stability:f difficulty:f seen:I day:I rating:I > f f I",
     "memory_state_from_sm2": "w:[f] ease_factor:f interval:f sm2_retention:f > f f",
     "training_step": _STEP + "> f f 10",
     "training_step_backward": _STEP + "g_s:d g_d:d g_r:d gw:&[d] > d d",
@@ -686,6 +696,25 @@ def next_state(w: Singles, state: State, delta_t: float, rating: int) -> State:
     """
     stability, difficulty = state
     return State(*_call("next_state", w, stability, difficulty, delta_t, rating))
+
+
+def next_state_on(w: Singles, seen: Seen, day: int, rating: int) -> Seen:
+    """The state after a later review on `day`, and that day: `next_state` after the days since the one on which the card was last
+    seen. A second review on that day is same-day study.
+
+    Refusals: WeightCount, WeightBox, Scalar (also for a day above MAX_DAY), Earlier.
+
+    >>> w = check_and_fill_parameters([])
+    >>> card = Seen(State(stability=5, difficulty=6), 19000)
+    >>> next_state_on(w, card, 19004, 3) == Seen(next_state(w, card.state, 4, 3), 19004)
+    True
+    >>> next_state_on(w, card, 18999, 3)
+    Traceback (most recent call last):
+    fsrs6.Refusal: the day is earlier than the one on which the card was last seen
+    """
+    (stability, difficulty), last = seen
+    *state, on = _call("next_state_on", w, stability, difficulty, last, day, rating)
+    return Seen(State(*state), on)
 
 
 def memory_state_from_sm2(w: Singles, ease_factor: float, interval: float, sm2_retention: float) -> State:

@@ -113,25 +113,31 @@ pub struct Reverse {
     pub slots: Vec<f64>,
 }
 
-/// A scalar formula by its place in FORMULAS: up to three singles, and a rating.
+/// A scalar formula by its place in FORMULAS: up to three singles, and a rating. Of a review on a day also the day on which
+/// the card was last seen, and its own.
 #[derive(Clone)]
 pub struct Formula {
     pub number: usize,
     pub w: Vec<f32>,
     pub args: [f32; 3],
     pub rating: u32,
+    pub days: [u32; 2],
 }
 
-pub const FORMULAS: [&str; 10] = [
+pub const FORMULAS: [&str; 11] = [
     "power_forgetting_curve", "next_interval", "init_difficulty", "mean_reversion", "next_difficulty",
     "stability_after_success", "stability_after_failure", "stability_short_term", "next_state", "memory_state_from_sm2",
+    "next_state_on",
 ];
 
 /// Its three singles are the ease factor, the interval and the retention.
 pub const FROM_SM2: usize = 9;
 
+/// It gives a day besides.
+pub const ON_DAY: usize = 10;
+
 impl Formula {
-    /// How many numbers it gives.
+    /// How many singles it gives.
     pub fn answers(&self) -> usize {
         if self.number < 8 { 1 } else { 2 }
     }

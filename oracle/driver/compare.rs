@@ -1,6 +1,6 @@
 // A call on both sides: ours, and what document 01 and the Rust's text have of it.
 use crate::analytic;
-use crate::cases::{plain_bits, Case, File, Formula, Kernel, Loss, Outcome, Part, FIELDS, WEIGHTS};
+use crate::cases::{plain_bits, Case, File, Formula, Kernel, Loss, Outcome, Part, FIELDS, ON_DAY, WEIGHTS};
 use crate::face::{self, UNWRITTEN_DOUBLE, UNWRITTEN_SINGLE};
 use crate::files;
 use crate::model;
@@ -66,7 +66,13 @@ fn expected_file(c: &File, tally: &mut Tally) -> Outcome {
 
 // What is wrong with the arguments comes before what the text makes of them.
 fn expected_formula(c: &Formula, tally: &mut Tally) -> Outcome {
-    let refused = |refusal| Outcome { refusal, parts: vec![unwritten("answer", false, c.answers())] };
+    let refused = |refusal| {
+        let mut parts = vec![unwritten("answer", false, c.answers())];
+        if c.number == ON_DAY {
+            parts.push(unwritten("day", false, 1));
+        }
+        Outcome { refusal, parts }
+    };
     match rules::formula_refusal(c) {
         0 => model::formula_outcome(c, tally).unwrap_or_else(|| refused(14)),
         refusal => refused(refusal),

@@ -1,6 +1,6 @@
 // Our C functions (include/fsrs6.h) on the calls. What they may write stands between guards, and what they may not is
 // looked at again afterwards.
-use crate::cases::{File, Formula, Kernel, Loss, Outcome, Part, Reverse, Step, FIELDS, WEIGHTS};
+use crate::cases::{File, Formula, Kernel, Loss, Outcome, Part, Reverse, Step, FIELDS, ON_DAY, WEIGHTS};
 
 #[rustfmt::skip]
 extern "C" {
@@ -27,6 +27,7 @@ extern "C" {
     fn fsrs_stability_after_failure(w: *const f32, w_len: usize, s: f32, r: f32, d: f32, stability: *mut f32) -> u32;
     fn fsrs_stability_short_term(w: *const f32, w_len: usize, s: f32, rating: u32, stability: *mut f32) -> u32;
     fn fsrs_next_state(w: *const f32, w_len: usize, stability: f32, difficulty: f32, delta_t: f32, rating: u32, next_stability: *mut f32, next_difficulty: *mut f32) -> u32;
+    fn fsrs_next_state_on(w: *const f32, w_len: usize, stability: f32, difficulty: f32, seen: u32, day: u32, rating: u32, next_stability: *mut f32, next_difficulty: *mut f32, next_seen: *mut u32) -> u32;
     fn fsrs_memory_state_from_sm2(w: *const f32, w_len: usize, ease_factor: f32, interval: f32, sm2_retention: f32, stability: *mut f32, difficulty: *mut f32) -> u32;
 
     fn fsrs_training_step(w: *const f32, w_len: usize, stability: f32, difficulty: f32, day: f32, rating: f32, row: usize, next_stability: *mut f32, next_difficulty: *mut f32, record: *mut f32) -> u32;
@@ -201,7 +202,7 @@ pub fn reverse(c: &Reverse) -> Outcome {
 }
 
 pub fn formula(c: &Formula) -> Outcome {
-    let mut out = singles(c.answers());
+    let (mut out, mut day) = (singles(c.answers()), singles(1));
     let (w, n, [x, y, z], rating) = (c.w.as_ptr(), c.w.len(), c.args, c.rating);
     let at = out.place(0);
     let refusal = unsafe {
@@ -215,10 +216,18 @@ pub fn formula(c: &Formula) -> Outcome {
             6 => fsrs_stability_after_failure(w, n, x, y, z, at),
             7 => fsrs_stability_short_term(w, n, x, rating, at),
             8 => fsrs_next_state(w, n, x, y, z, rating, at, out.place(1)),
+            ON_DAY => {
+                let [seen, on] = c.days;
+                fsrs_next_state_on(w, n, x, y, seen, on, rating, at, out.place(1), day.place(0))
+            }
             _ => fsrs_memory_state_from_sm2(w, n, x, y, z, at, out.place(1)),
         }
     };
-    Outcome { refusal, parts: vec![single_part("answer", out)] }
+    let mut parts = vec![single_part("answer", out)];
+    if c.number == ON_DAY {
+        parts.push(single_part("day", day));
+    }
+    Outcome { refusal, parts }
 }
 
 pub fn filling(given: &[f32]) -> Outcome {

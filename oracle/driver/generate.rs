@@ -1,8 +1,8 @@
 // Calls: first one that is accepted, every unread cell holding anything, and then perhaps faults.
 use crate::analytic;
-use crate::cases::{Case, Formula, Kernel, Loss, Reverse, Step, FIELDS, FORMULAS, FROM_SM2, KERNELS, WEIGHTS};
+use crate::cases::{Case, Formula, Kernel, Loss, Reverse, Step, FIELDS, FORMULAS, FROM_SM2, KERNELS, ON_DAY, WEIGHTS};
 use crate::random::{Random, LEAST};
-use crate::rules::{COLUMNS_MAX, DIFFICULTY, ROWS_MAX, STABILITY};
+use crate::rules::{COLUMNS_MAX, DAY_NUMBER_MAX, DIFFICULTY, ROWS_MAX, STABILITY};
 
 /// Which loss is called.
 #[derive(Clone, Copy)]
@@ -443,9 +443,26 @@ fn meet_sm2_edge(r: &mut Random, w: &mut [f32]) {
     }
 }
 
+// The day when a card was last seen, and that of a review: mostly the same or a later one.
+fn day_numbers(r: &mut Random) -> [u32; 2] {
+    let mut any = || match r.below(12) {
+        0 => r.pick(&[0, 1, DAY_NUMBER_MAX - 1, DAY_NUMBER_MAX]),
+        1 if r.one_in(2) => r.pick(&[DAY_NUMBER_MAX + 1, 1 << 24, 1 << 31, u32::MAX]),
+        _ => r.below(DAY_NUMBER_MAX as usize + 1) as u32,
+    };
+    let (seen, day) = (any(), any());
+    match r.below(8) {
+        0 => [seen, day],
+        1 => [seen, seen.wrapping_sub(1)],
+        2 | 3 => [seen, seen],
+        4 | 5 => [seen, seen.saturating_add(r.between(1, 400) as u32)],
+        _ => [seen.min(day), seen.max(day)],
+    }
+}
+
 fn formula(r: &mut Random) -> Formula {
-    // it has more edges than the others
-    let number = if r.one_in(4) { FROM_SM2 } else { r.below(FORMULAS.len()) };
+    // these have more edges than the others
+    let number = if r.one_in(3) { r.pick(&[FROM_SM2, FROM_SM2, ON_DAY]) } else { r.below(FORMULAS.len()) };
     let mut w = some_weights(r);
     if number == FROM_SM2 {
         meet_sm2_edge(r, &mut w);
@@ -461,11 +478,13 @@ fn formula(r: &mut Random) -> Formula {
         5 | 6 => [s, unit, d],
         7 => [s, 0.0, 0.0],
         8 => [s, d, day],
+        ON_DAY => [s, d, 0.0],
         FROM_SM2 => sm2_card(r, &w),
         _ => [0.0; 3],
     };
     let rating = if r.one_in(10) { r.pick(&[0, 5, 6, u32::MAX, 1 << 31]) } else { r.between(1, 4) as u32 };
-    Formula { number, w, args, rating }
+    let days = if number == ON_DAY { day_numbers(r) } else { [0; 2] };
+    Formula { number, w, args, rating, days }
 }
 
 fn step(r: &mut Random) -> Step {

@@ -1,7 +1,7 @@
 // Calls as text, to be stored or run again. The lines w, g and 0 to 7 are those of tools/vectors/losses.py, which says what
 // they hold. Beside them, over the weights and the slots of the last lines w and g, and without an answer:
 //
-//     s    a formula: its number from 0, three singles, a rating
+//     s    a formula: its number from 0, three singles, a rating, two days
 //     t    a training step: stability, difficulty, day, rating, row
 //     r    its reverse: the same, and three doubles
 //     f    a filling: a slice of singles
@@ -65,7 +65,8 @@ pub fn lines(case: &Case, answer: Option<&Outcome>) -> String {
         }
         Case::Formula(c) => {
             let [x, y, z] = c.args.map(f32::to_bits);
-            format!("{}\ns {:x} {x:08x} {y:08x} {z:08x} {:x}", weights_line(&c.w), c.number, c.rating)
+            let [seen, day] = c.days;
+            format!("{}\ns {:x} {x:08x} {y:08x} {z:08x} {:x} {seen:x} {day:x}", weights_line(&c.w), c.number, c.rating)
         }
         Case::Filling(given) => format!("f{}", singles(given)),
         Case::Kernel(c) => format!("k {:x} {:x} {:x} {:x}", c.number, c.args[0], c.args[1], c.args[2]),
@@ -169,6 +170,7 @@ impl Reader {
             w: self.w.clone(),
             args: [words.single(), words.single(), words.single()],
             rating: words.number() as u32,
+            days: [words.number() as u32, words.number() as u32],
         }
     }
 

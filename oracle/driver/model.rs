@@ -1,7 +1,7 @@
 // The Rust's scalar formulas and its filling, as their text stands, with document 01's added rules around them. run makes
 // the text: exp, exp_m1, ln and powf are ours (but not with --stock); mul_add and round are Rust's own.
 #![allow(dead_code, unused_imports)]
-use crate::cases::{Formula, Outcome, Part, FORMULAS, FROM_SM2};
+use crate::cases::{Formula, Outcome, Part, FORMULAS, FROM_SM2, ON_DAY};
 use crate::inference::MemoryState;
 use crate::simulation::{D_MAX, D_MIN, S_MAX, S_MIN};
 use crate::tally::Tally;
@@ -21,6 +21,11 @@ fn next_state(w: &[f32], stability: f32, difficulty: f32, day: f32, rating: u32)
     let state = MemoryState { stability, difficulty, stability_fast: stability };
     let next = next_state_scalar(w, state, plain_day(day), rating);
     [next.stability, next.difficulty]
+}
+
+// K2: 'the elapsed days are the difference'.
+fn elapsed(c: &Formula) -> f32 {
+    if c.number == ON_DAY { (c.days[1] - c.days[0]) as f32 } else { c.args[2] }
 }
 
 fn from_sm2(w: &[f32], ease: f32, interval: f32, retention: f32) -> Option<[f32; 2]> {
@@ -52,16 +57,17 @@ fn note_from_sm2(c: &Formula, answer: Option<&[f32]>, tally: &mut Tally) {
 // Which way the next state goes, and which answers lie at an end.
 fn note(c: &Formula, answer: &[f32], tally: &mut Tally) {
     let name = FORMULAS[c.number];
-    if c.number == 8 {
-        let is_same_day = c.args[2].max(0.0).round() == 0.0;
+    if c.number == 8 || c.number == ON_DAY {
+        let is_same_day = elapsed(c).max(0.0).round() == 0.0;
         let rating = c.rating.clamp(1, 4);
-        tally.branch(match (is_same_day, rating) {
-            (true, _) => "formula: next_state, same day",
-            (false, 1) => "formula: next_state, lapse",
-            _ => "formula: next_state, success",
-        });
+        let what = match (is_same_day, rating) {
+            (true, _) => "same day",
+            (false, 1) => "lapse",
+            _ => "success",
+        };
+        tally.branch(&format!("formula: {name}, {what}"));
         if rating != c.rating {
-            tally.branch("formula: next_state, rating clamped");
+            tally.branch(&format!("formula: {name}, rating clamped"));
         }
     }
     for (end, x) in [("0", 0.0), ("0.0001", S_MIN), ("36500", S_MAX), ("1", D_MIN), ("10", D_MAX)] {
@@ -79,7 +85,11 @@ pub fn formula_outcome(c: &Formula, tally: &mut Tally) -> Option<Outcome> {
     }
     let answer = answer?;
     note(c, &answer, tally);
-    Some(Outcome { refusal: 0, parts: vec![Part::singles("answer", answer)] })
+    let mut parts = vec![Part::singles("answer", answer)];
+    if c.number == ON_DAY {
+        parts.push(Part::of("day", false, vec![c.days[1].into()]));
+    }
+    Some(Outcome { refusal: 0, parts })
 }
 
 fn formula(c: &Formula) -> Option<Vec<f32>> {
@@ -94,7 +104,7 @@ fn formula(c: &Formula) -> Option<Vec<f32>> {
         5 => stability_after_success_scalar(w, x, y, z, rating),
         6 => stability_after_failure_scalar(w, x, y, z),
         7 => stability_short_term_scalar(w, x, rating),
-        8 => return Some(next_state(w, x, y, z, c.rating).to_vec()),
+        8 | ON_DAY => return Some(next_state(w, x, y, elapsed(c), c.rating).to_vec()),
         _ => return from_sm2(w, x, y, z).map(Vec::from),
     };
     Some(vec![answer])

@@ -1,6 +1,6 @@
 // Document 01's checks and their order, read from it alone: the number of the refusal, 0 where a call is accepted. Of K1's 14,
-// which the text decides, only what is said of it besides. What is read in K5's mode stands apart.
-use crate::cases::{Formula, Loss, Reverse, Step, FIELDS, FROM_SM2, WEIGHTS};
+// which the text decides, only what is said of it besides; K2's 15. What is read in K5's mode stands apart.
+use crate::cases::{Formula, Loss, Reverse, Step, FIELDS, FROM_SM2, ON_DAY, WEIGHTS};
 
 pub const BOX: [(f32, f32); WEIGHTS] = [
     (0.0001, 36500.0), (0.0001, 36500.0), (0.0001, 36500.0), (0.0001, 36500.0), (0.0, 20.0), (0.0, 4.0), (0.0, 6.0),
@@ -8,6 +8,7 @@ pub const BOX: [(f32, f32); WEIGHTS] = [
     (1.0, 10.0), (0.0, 3.0), (0.0, 3.0), (0.0, 1.0), (0.1, 1.0),
 ];
 pub const DAY_MAX: f32 = 100000.0;
+pub const DAY_NUMBER_MAX: u32 = 100000;
 pub const WEIGHT_MAX: f32 = 1000000.0;
 pub const ROWS_MAX: u32 = 2048;
 pub const COLUMNS_MAX: u32 = 512;
@@ -235,9 +236,15 @@ pub fn formula_refusal(c: &Formula) -> u32 {
         7 => is_in(a, STABILITY) && is_rated,
         8 => a.is_finite() && b.is_finite() && is_day(d),
         FROM_SM2 => a.is_finite() && b.is_finite() && d.is_finite(),
+        ON_DAY => a.is_finite() && b.is_finite() && c.days.iter().all(|x| *x <= DAY_NUMBER_MAX),
         _ => unreachable!(),
     };
-    if is_good { 0 } else { 13 }
+    match is_good {
+        false => 13,
+        // K2: 'new 15 for the earlier day, after 13'
+        true if c.number == ON_DAY && c.days[1] < c.days[0] => 15,
+        true => 0,
+    }
 }
 
 /// K1: 'a retention of 0 or below included'. With the port's kernels one of 1 or above is as well.

@@ -11,7 +11,7 @@ struct call {
     float w[FSRS_WEIGHTS];
     size_t w_len;
     float stability, difficulty, retrievability, retention, day, rating, ease;
-    uint32_t whole_rating;
+    uint32_t whole_rating, seen, day_number;
     size_t row;
     double g_s, g_d, g_r;
     uint32_t rows, columns, lengths[COLUMNS];
@@ -22,6 +22,7 @@ struct call {
     size_t file_len;
     /* from here on a call may write */
     float filled[FSRS_WEIGHTS], answer, answer_difficulty, record[FSRS_RECORD];
+    uint32_t answer_seen;
     double gw[FSRS_WEIGHTS];
     size_t gw_len;
     float records[FSRS_RECORD * ROWS];
@@ -41,6 +42,8 @@ static struct call good(void) {
         .rating = 3,
         .ease = 2.5f,
         .whole_rating = 3,
+        .seen = 19000,
+        .day_number = 19004,
         .row = 1,
         .g_s = 1,
         .g_d = -2,
@@ -57,6 +60,7 @@ static struct call good(void) {
         .kind = 2,
         .answer = 7,
         .answer_difficulty = 8,
+        .answer_seen = 12,
         .gw_len = FSRS_WEIGHTS,
         .records_len = FSRS_RECORD * ROWS,
         .loss = 9,
@@ -117,6 +121,11 @@ static uint32_t first_state(struct call *x) {
 static uint32_t state(struct call *x) {
     return fsrs_next_state(x->w, x->w_len, x->stability, x->difficulty, x->day, x->whole_rating, &x->answer,
                            &x->answer_difficulty);
+}
+
+static uint32_t on_day(struct call *x) {
+    return fsrs_next_state_on(x->w, x->w_len, x->stability, x->difficulty, x->seen, x->day_number, x->whole_rating,
+                              &x->answer, &x->answer_difficulty, &x->answer_seen);
 }
 
 static uint32_t sm2(struct call *x) {
@@ -202,6 +211,7 @@ enum {
     BOX = BIT(FSRS_WEIGHT_COUNT) | BIT(FSRS_WEIGHT_BOX),
     FORMULA = BOX | BIT(FSRS_SCALAR),
     IMPORT = FORMULA | BIT(FSRS_IMPORT),
+    ON_DAY = FORMULA | BIT(FSRS_EARLIER),
     STEP = FORMULA | BIT(FSRS_RATING) | BIT(FSRS_DAY),
     CARD = BOX | BIT(FSRS_SIZES) | BIT(FSRS_RATING) | BIT(FSRS_DAY) | BIT(FSRS_REVIEW),
     PREFIX = CARD | BIT(FSRS_EMPTY_PREFIX),
@@ -229,6 +239,7 @@ static const struct function functions[] = {
     {"stability_short_term", short_term, FORMULA},
     {"first_state", first_state, FORMULA},
     {"next_state", state, FORMULA},
+    {"next_state_on", on_day, ON_DAY},
     {"memory_state_from_sm2", sm2, IMPORT},
     {"training_step", step, STEP},
     {"training_step_backward", step_backward, STEP | SLOTS},
@@ -364,6 +375,10 @@ static void retention_none(struct call *x) {
     x->retention = 0;
 }
 
+static void day_earlier(struct call *x) {
+    x->day_number = x->seen - 1;
+}
+
 static const struct {
     uint32_t number;
     void (*make)(struct call *);
@@ -384,6 +399,7 @@ static const struct {
     {FSRS_EMPTY_PREFIX, prefix_empty},
     {FSRS_SCALAR, not_finite},
     {FSRS_IMPORT, retention_none},
+    {FSRS_EARLIER, day_earlier},
 };
 
 static void try_faults(const struct function *f) {
@@ -424,6 +440,35 @@ static void first_states_refused(void) {
         x.w_len = 0;
         expect_refused("no weights and a first rating", first_state, &x, FSRS_WEIGHT_COUNT);
     }
+}
+
+static void expect_day(struct call x, uint32_t seen, uint32_t day, uint32_t number) {
+    x.seen = seen;
+    x.day_number = day;
+    expect_refused("next_state_on", on_day, &x, number);
+}
+
+/* 1, 2, 13 and 15, in this order. */
+static void days_refused(void) {
+    const uint32_t last = FSRS_MAX_DAY;
+    struct call x = good();
+    expect_day(x, 1, 0, FSRS_EARLIER);
+    expect_day(x, last, 0, FSRS_EARLIER);
+    expect_day(x, last, last - 1, FSRS_EARLIER);
+    const uint32_t beyond[] = {last + 1, 1u << 24, UINT32_MAX};
+    for (size_t i = 0; i < sizeof beyond / sizeof *beyond; i++) {
+        expect_day(x, 0, beyond[i], FSRS_SCALAR);
+        expect_day(x, beyond[i], beyond[i], FSRS_SCALAR);
+        /* 13 comes before 15 */
+        expect_day(x, beyond[i], 0, FSRS_SCALAR);
+        expect_day(x, beyond[i], last, FSRS_SCALAR);
+    }
+    x.difficulty = NAN;
+    expect_day(x, 5, 4, FSRS_SCALAR);
+    x.w[20] = 1.5f;
+    expect_day(x, 5, 4, FSRS_WEIGHT_BOX);
+    x.w_len = FSRS_WEIGHTS - 1;
+    expect_day(x, 5, 4, FSRS_WEIGHT_COUNT);
 }
 
 static void expect_import(float ease, float interval, float retention, uint32_t number) {
@@ -599,6 +644,30 @@ static void first_states(void) {
     x = good();
     x.stability = x.difficulty = x.day = 0;
     expect(state(&x) == FSRS_ACCEPTED && x.answer < 0.001f, "(0, 0) was taken for a new card");
+}
+
+/* The state is that of fsrs_next_state after the days between, and the day is carried on. */
+static void days_carried(void) {
+    const uint32_t days[][2] = {{0, 0}, {0, 1}, {7, 7}, {19000, 19004}, {0, 100000}, {100000, 100000}, {99999, 100000}};
+    for (size_t i = 0; i < sizeof days / sizeof *days; i++) {
+        struct call x = good(), y = good();
+        x.seen = days[i][0];
+        x.day_number = days[i][1];
+        y.day = (float)(x.day_number - x.seen);
+        for (x.whole_rating = y.whole_rating = 0; x.whole_rating <= 5; y.whole_rating = ++x.whole_rating) {
+            expect(state(&y) == FSRS_ACCEPTED, "a state was refused");
+            expect_state("a review on a day", on_day, x, y.answer, y.answer_difficulty);
+            expect(on_day(&x) == FSRS_ACCEPTED && x.answer_seen == x.day_number, "the day was not carried on");
+        }
+    }
+    /* the card's own variables may be the places: a refused call leaves them */
+    struct call x = good();
+    float s = x.stability, d = x.difficulty;
+    uint32_t seen = x.seen;
+    expect(fsrs_next_state_on(x.w, x.w_len, s, d, seen, seen - 1, 3, &s, &d, &seen) == FSRS_EARLIER &&
+           s == x.stability && d == x.difficulty && seen == x.seen, "a refused card is not as it was");
+    expect(fsrs_next_state_on(x.w, x.w_len, s, d, seen, seen + 4, 3, &s, &d, &seen) == FSRS_ACCEPTED && s > x.stability &&
+           seen == x.seen + 4, "a card over itself");
 }
 
 /* Where the deck was recalled at 0.9 the stability is the interval, but for two roundings, which a power of 2 leaves out. */
@@ -875,11 +944,13 @@ static void files_refused(void) {
 int main(void) {
     refusals();
     first_states_refused();
+    days_refused();
     imports_refused();
     kernels();
     kernels_refused();
     formulas();
     first_states();
+    days_carried();
     imports();
     steps();
     steps_backward();

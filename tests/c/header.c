@@ -14,14 +14,16 @@ static void version(void) {
 }
 
 static void texts(void) {
-    const char *other = fsrs_refusal_text(FSRS_IMPORT + 1);
+    const char *other = fsrs_refusal_text(FSRS_EARLIER + 1);
     expect(strcmp(fsrs_refusal_text(FSRS_ACCEPTED), "accepted") == 0, "0 is not accepted");
     expect(strcmp(fsrs_refusal_text(FSRS_KERNEL), "an argument is outside the kernel's domain") == 0, "10 in words");
     expect(strcmp(fsrs_refusal_text(FSRS_IMPORT), "a card from SM-2 gets no finite stability or difficulty") == 0,
            "14 in words");
+    expect(strcmp(fsrs_refusal_text(FSRS_EARLIER), "the day is earlier than the one on which the card was last seen") == 0,
+           "15 in words");
     expect(strcmp(fsrs_refusal_text(UINT32_MAX), other) == 0, "numbers beyond have more than one text");
-    for (uint32_t i = 0; i <= FSRS_IMPORT; i++) {
-        for (uint32_t j = i + 1; j <= FSRS_IMPORT + 1; j++) {
+    for (uint32_t i = 0; i <= FSRS_EARLIER; i++) {
+        for (uint32_t j = i + 1; j <= FSRS_EARLIER + 1; j++) {
             expect(strcmp(fsrs_refusal_text(i), fsrs_refusal_text(j)) != 0, "%d and %d have one text", (int)i, (int)j);
         }
     }

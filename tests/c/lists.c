@@ -20,6 +20,7 @@ static size_t w_len, g_len;
 
 struct lent {
     float answers[FSRS_WEIGHTS], record[FSRS_RECORD];
+    uint32_t day;
     double grad_s, grad_d, loss, gw[SET];
     float records[RECORDS];
     double step_grads[STEP_GRADS];
@@ -134,6 +135,14 @@ static void study_line(char letter) {
     if (letter == 'F') {
         if (expect_refusal(fsrs_check_and_fill_parameters(w, w_len, lent.answers), words[0])) {
             expect_singles("weight", lent.answers, words + 1, FSRS_WEIGHTS);
+        }
+    } else if (letter == 'O') {
+        uint32_t n = fsrs_next_state_on(w, w_len, single_of(words[0]), single_of(words[1]), (uint32_t)words[2],
+                                        (uint32_t)words[3], (uint32_t)words[4], &lent.answers[0], &lent.answers[1],
+                                        &lent.day);
+        if (expect_refusal(n, words[5])) {
+            expect_singles("answer", lent.answers, words + 6, 2);
+            expect_bits("day", lent.day, words[8]);
         }
     } else if (strchr("CISLTEMDNP", letter)) {
         if (expect_refusal(formula(letter, lent.answers), words[4])) {

@@ -68,7 +68,7 @@ static void kernels(struct round *x) {
 #define W x->w, FSRS_WEIGHTS
 
 static void formulas(struct round *x) {
-    float a[14], filled[FSRS_WEIGHTS], r = between(x, 0, 1);
+    float a[16], filled[FSRS_WEIGHTS], r = between(x, 0, 1);
     float ease = between(x, 1.3f, 3), interval = between(x, 1, 100), retention = between(x, 0.6f, 0.95f);
     accept(x, fsrs_check_and_fill_parameters(W, filled));
     accept(x, fsrs_power_forgetting_curve(W, x->day, x->s, &a[0]));
@@ -81,8 +81,11 @@ static void formulas(struct round *x) {
     accept(x, fsrs_stability_short_term(W, x->s, x->rating, &a[7]));
     accept(x, fsrs_first_state(W, x->rating, &a[8], &a[9]));
     accept(x, fsrs_next_state(W, x->s, x->d, x->day, x->rating, &a[10], &a[11]));
+    uint32_t first_day = any(x) % 1000, day;
+    accept(x, fsrs_next_state_on(W, x->s, x->d, first_day, first_day + any(x) % 400, x->rating, &a[14], &a[15], &day));
     accept(x, fsrs_memory_state_from_sm2(W, ease, interval, retention, &a[12], &a[13]));
     see_singles(x, filled, FSRS_WEIGHTS);
+    see(x, day);
     see_singles(x, a, sizeof a / sizeof *a);
 }
 

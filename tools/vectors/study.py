@@ -5,7 +5,7 @@
 
 How the list is made: every answer is computed here, with whole numbers and exact fractions alone, and
 never with a float. The formulas are the Rust's own, line by line under its names, from model_v6.rs and
-inference_v6.rs; the box, the ranges and the refusals are document 01's, and 14 is K1's. This is a second
+inference_v6.rs; the box, the ranges and the refusals are document 01's, 14 is K1's and 15 K2's. This is a second
 reading of both: nothing is taken from the definitions of the crates, but for what `max` and `min` give of two
 zeros with unlike signs, which Rust leaves open. Each sum, difference, product, quotient, fused
 multiply-add and `round` is an exact fraction, rounded once (tools/floats.py). exp, exp_m1, ln and pow are
@@ -15,8 +15,9 @@ formula. The arguments are chosen below: first cases by hand, then pseudo-random
 
 lines.py says what all lists share; no line g is here, and a rating is a whole number. A line has seven
 words: the first four are the arguments, the fifth is the number of a refusal, 0 where there is none, and
-the sixth and seventh are the values, 0 where there is a refusal. Where nothing is said a word is 0. Lines
-u, k and F have 22 words.
+the sixth and seventh are the values, 0 where there is a refusal: a refused N or O hands back the state
+that it was given, which the program holds to the arguments. Where nothing is said a word is 0. Lines u, k
+and F have 22 words and a line O has nine: five arguments, the refusal, and three values.
 
     c    clamp                                  x low high   -> value
     x n  max min                                x y          -> value
@@ -39,6 +40,7 @@ u, k and F have 22 words.
     M    mean_reversion_scalar                  init current -> refusal, value
     D    next_difficulty_scalar                 d rating     -> refusal, value
     N    next_state_scalar                      stability difficulty day rating -> refusal, stability, difficulty
+    O    next_state_on_scalar                   stability difficulty seen day rating -> refusal, stability, difficulty, day
     P    memory_state_from_sm2_scalar           ease interval retention -> refusal, stability, difficulty
 """
 from fractions import Fraction
@@ -59,6 +61,7 @@ NAMES = {
     "I": "next_interval_scalar", "S": "stability_after_success_scalar", "L": "stability_after_failure_scalar",
     "T": "stability_short_term_scalar", "E": "init_difficulty_scalar", "M": "mean_reversion_scalar",
     "D": "next_difficulty_scalar", "N": "next_state_scalar", "P": "memory_state_from_sm2_scalar",
+    "O": "next_state_on_scalar",
 }
 
 # ---- singles
@@ -224,7 +227,7 @@ def memory_state_from_sm2_scalar(w, ease_factor, interval, sm2_retention):
     return stability, clamp(difficulty, D_MIN, D_MAX)
 
 
-# ---- document 01's refusals, and K1's
+# ---- document 01's refusals, K1's and K2's
 
 def is_stability(s):
     return is_within(s, S_MIN, S_MAX)
@@ -244,6 +247,10 @@ def is_share(r):
 
 def is_rating(rating):
     return 1 <= rating <= 4
+
+
+def is_day_number(day):
+    return day <= 100000
 
 
 def weights_refusal(w):
@@ -327,6 +334,16 @@ def ask(letter, *arguments):
             refusal, answer = 14, 0
         values = answer if isinstance(answer, tuple) else (answer,)
         line(letter, arguments, refusal, *(one_nan(x) for x in values))
+
+
+def ask_on(stability, difficulty, seen, day, rating):
+    """K2: the formula N after the days between, and the day that was named."""
+    good = is_finite(stability) and is_finite(difficulty) and is_day_number(seen) and is_day_number(day)
+    refusal = weights_refusal(weights) or (0 if good else 13) or (15 if day < seen else 0)
+    values = 0, 0, 0
+    if not refusal:
+        values = *map(one_nan, next_state_scalar(weights, stability, difficulty, number(day - seen), rating)), day
+    lines.add("O", stability, difficulty, seen, day, rating, refusal, *values)
 
 
 def ask_box():
@@ -808,6 +825,53 @@ def sm2_cases():
     sm2_some_cases()
 
 
+# ---- reviews on days
+
+def on_day_edge_cases():
+    days = (0, 1, 99999, 100000, 100001, 1 << 24, (1 << 32) - 1)
+    for seen in days:
+        for day in days:
+            ask_on(number(5), number(6), seen, day, 3)
+    for rating in (0, 1, 2, 3, 4, 5, (1 << 32) - 1):
+        for day in (19000, 19001, 19400):
+            ask_on(number(5), number(6), 19000, day, rating)
+    for bad in (*HUGE[2:], *NANS):
+        for seen, day in ((7, 9), (9, 9), (9, 7), (7, 100001), (100001, 7)):
+            ask_on(bad, number(6), seen, day, 3)
+            ask_on(number(5), bad, seen, day, 3)
+    for s in around(S_MIN, S_MAX) + TINY + HUGE[:2]:
+        for day in (30, 31, 29):
+            ask_on(s, either(ZERO, D_MIN, D_MAX, F32.max), 30, day, between(1, 4))
+
+
+def on_day_weight_cases():
+    bad = [with_one(FSRS6_DEFAULT_PARAMETERS, 20, up(ONE)), with_one(FSRS6_DEFAULT_PARAMETERS, 0, NONE)]
+    for w in bad + [FSRS6_DEFAULT_PARAMETERS[:20], []]:
+        take(w)
+        for seen, day in ((7, 9), (9, 7), (100001, 7)):
+            ask_on(number(5), number(6), seen, day, 3)
+            ask_on(NONE, number(6), seen, day, 3)
+
+
+def on_day_some_cases():
+    for _ in range(24):
+        take(some_set())
+        for _ in range(3):
+            seen = either(below(100001), below(100))
+            day = min(seen + either(0, below(3), below(400), below(100001)), 100000)
+            ask_on(some_single(S_MIN, S_MAX), some_single(D_MIN, D_MAX), seen, day, between(1, 4))
+
+
+def on_day_cases():
+    remark("next_state_on_scalar: days at the ends and past them, ratings, states that are not finite or out of their range")
+    take(FSRS6_DEFAULT_PARAMETERS)
+    on_day_edge_cases()
+    remark("next_state_on_scalar: reasons for 1, 2, 13 and 15 at once")
+    on_day_weight_cases()
+    remark("next_state_on_scalar: pseudo-random")
+    on_day_some_cases()
+
+
 def main():
     remark("Test vectors of domain and model_v6, seed %d: made by tools/vectors/study.py, which says how" % seeded())
     remark("domain: comparing")
@@ -838,6 +902,7 @@ def main():
         take(some_set())
         some_cases()
     sm2_cases()
+    on_day_cases()
     lines.write()
 
 

@@ -1,6 +1,6 @@
 //! Weight sets, and the study screen's formulas on them.
 
-use crate::{raw, Refusal, State, WEIGHTS};
+use crate::{raw, Refusal, Seen, State, WEIGHTS};
 
 /// A set of 0, 17, 19 or 21 weights made whole: none gives the defaults, a shorter one is of an older version.
 ///
@@ -177,6 +177,28 @@ pub fn first_state(w: &[f32], rating: u32) -> Result<State, Refusal> {
 /// ```
 pub fn next_state(w: &[f32], state: State, delta_t: f32, rating: u32) -> Result<State, Refusal> {
     raw::next_state(w, state, delta_t, rating)
+}
+
+/// The state after a later review on `day`, and that day: [`next_state`] after the days since the one on which the card was
+/// last seen. A second review on that day is same-day study.
+///
+/// Refusals: [`Refusal::WeightCount`], [`Refusal::WeightBox`], [`Refusal::Scalar`], also for a day above
+/// [`MAX_DAY`](crate::MAX_DAY), and [`Refusal::Earlier`]. A refused card is as it was.
+///
+/// ```
+/// use fsrs6::{check_and_fill_parameters, first_state, next_interval, next_state_on, Refusal, Seen};
+/// let w = check_and_fill_parameters(&[])?;
+/// let mut card = Seen { state: first_state(&w, 3)?, day: 19000 }; // a new card, rated 3
+/// for (day, rating) in [(19002, 3), (19013, 1), (19013, 3)] {
+///     card = next_state_on(&w, card, day, rating)?;
+/// }
+/// let due = card.day + next_interval(&w, card.state.stability, 0.9)?.round().max(1.0) as u32;
+/// assert!(due > 19013);
+/// assert_eq!(next_state_on(&w, card, 19012, 3), Err(Refusal::Earlier));
+/// # Ok::<(), Refusal>(())
+/// ```
+pub fn next_state_on(w: &[f32], seen: Seen, day: u32, rating: u32) -> Result<Seen, Refusal> {
+    raw::next_state_on(w, seen, day, rating)
 }
 
 /// The state of a card from an SM-2 deck, by its ease factor, its interval in days, and the share of the deck's reviews

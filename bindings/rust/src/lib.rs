@@ -6,18 +6,23 @@
 //! header has the range of each, and which cells of a loss call are read.
 //!
 //! ```
-//! use fsrs6::{check_and_fill_parameters, next_interval, next_state, State};
+//! use fsrs6::{check_and_fill_parameters, first_state, next_interval, next_state_on, Refusal, Seen};
 //!
 //! let w = check_and_fill_parameters(&[])?; // the default weights
-//! let state = State { stability: 5.0, difficulty: 6.0 };
-//! let after = next_state(&w, state, 4.0, 3)?; // rated 3 after four days
-//! assert!(after.stability > state.stability);
-//! assert!(next_interval(&w, after.stability, 0.9)? > 5.0);
+//! let mut card = Seen { state: first_state(&w, 3)?, day: 19000 }; // a new card, rated 3 on its first day
+//! for (day, rating) in [(19002, 3), (19013, 1), (19013, 3)] {
+//!     card = next_state_on(&w, card, day, rating)?;
+//!     let days = next_interval(&w, card.state.stability, 0.9)?;
+//!     println!("day {}: see it again on day {}", card.day, card.day + days.round().max(1.0) as u32);
+//! }
+//! assert_eq!(card.day, 19013);
+//! assert_eq!(next_state_on(&w, card, 19012, 3), Err(Refusal::Earlier)); // and the card is as it was
 //! # Ok::<(), fsrs6::Refusal>(())
 //! ```
 //!
 //! A card begins with its first review, whose rating alone gives its state: [`first_state`]. Every later review is a call
-//! of [`next_state`] on the state before it, and after each [`next_interval`] tells when to show the card again.
+//! of [`next_state_on`], which is told its day and carries it on with the state ([`Seen`]); or of [`next_state`], which is
+//! told the days between. After each [`next_interval`] tells when to show the card again.
 //!
 //! No function keeps anything from one call to the next, so any number of calls may run at once, on any threads. One duty
 //! of the header's no type can see to: a thread's floats are as they start, rounded to nearest and subnormals not flushed.
@@ -34,7 +39,7 @@ mod step;
 
 pub use formulas::{
     check_and_fill_parameters, first_state, init_difficulty, mean_reversion, memory_state_from_sm2, next_difficulty,
-    next_interval, next_state, power_forgetting_curve, stability_after_failure, stability_after_success,
+    next_interval, next_state, next_state_on, power_forgetting_curve, stability_after_failure, stability_after_success,
     stability_short_term,
 };
 pub use kernels::{
@@ -92,6 +97,8 @@ pub const MAX_COLUMNS: u32 = 512;
 pub const FILE_BYTES: usize = 65536;
 /// The most rows of a batch file.
 pub const FILE_ROWS: u32 = 512;
+/// The last day number ([`Seen`]).
+pub const MAX_DAY: u32 = 100000;
 
 /// What the memory of a card is after a review. A card that has had none has no state: [`first_state`] gives its first.
 ///
@@ -102,4 +109,13 @@ pub struct State {
     pub stability: f32,
     /// From 1, easy, to 10.
     pub difficulty: f32,
+}
+
+/// A card's state, and when it was last seen.
+#[derive(Clone, Copy, Debug, Default, PartialEq)]
+pub struct Seen {
+    /// After that review.
+    pub state: State,
+    /// The number of that day, from 0 to [`MAX_DAY`], on a calendar that counts whole days from any day.
+    pub day: u32,
 }

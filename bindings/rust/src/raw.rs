@@ -4,7 +4,7 @@
 //! a slice's pointer also where it is empty; as many entries as the slice's length says; and nothing else that is lent
 //! overlaps what is lent by `&mut`. This is the ground of every call below.
 
-use crate::{Align, Cards, Prefixes, Refusal, State, StateGradient, Step, Stepped, RECORD, WEIGHTS};
+use crate::{Align, Cards, Prefixes, Refusal, Seen, State, StateGradient, Step, Stepped, RECORD, WEIGHTS};
 
 /// The declarations, as in the header. Of a loss that is the function that takes the mode.
 mod c {
@@ -73,6 +73,18 @@ mod c {
             rating: u32,
             next_stability: *mut f32,
             next_difficulty: *mut f32,
+        ) -> u32;
+        pub fn fsrs_next_state_on(
+            w: *const f32,
+            w_len: usize,
+            stability: f32,
+            difficulty: f32,
+            seen: u32,
+            day: u32,
+            rating: u32,
+            next_stability: *mut f32,
+            next_difficulty: *mut f32,
+            next_seen: *mut u32,
         ) -> u32;
         pub fn fsrs_memory_state_from_sm2(
             w: *const f32,
@@ -279,6 +291,26 @@ pub fn next_state(w: &[f32], q: State, delta_t: f32, rating: u32) -> Result<Stat
             rating,
             &mut next.stability,
             &mut next.difficulty,
+        )
+    };
+    Refusal::accepted(number, next)
+}
+
+pub fn next_state_on(w: &[f32], q: Seen, day: u32, rating: u32) -> Result<Seen, Refusal> {
+    let mut next = Seen::default();
+    // SAFETY: w is a slice with its own length; the three places are apart and this function's.
+    let number = unsafe {
+        c::fsrs_next_state_on(
+            w.as_ptr(),
+            w.len(),
+            q.state.stability,
+            q.state.difficulty,
+            q.day,
+            day,
+            rating,
+            &mut next.state.stability,
+            &mut next.state.difficulty,
+            &mut next.day,
         )
     };
     Refusal::accepted(number, next)

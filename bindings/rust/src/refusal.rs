@@ -35,11 +35,13 @@ pub enum Refusal {
     Scalar = 13,
     /// A card from SM-2 gets no finite state, as by a retention not inside 0..1.
     Import = 14,
+    /// A review on an earlier day than the one on which the card was last seen.
+    Earlier = 15,
 }
 
 impl Refusal {
     /// All of them, by their numbers.
-    pub const ALL: [Refusal; 14] = [
+    pub const ALL: [Refusal; 15] = [
         Refusal::WeightCount,
         Refusal::WeightBox,
         Refusal::Sizes,
@@ -54,9 +56,10 @@ impl Refusal {
         Refusal::FillingCount,
         Refusal::Scalar,
         Refusal::Import,
+        Refusal::Earlier,
     ];
 
-    /// The refusal's number, from 1 to 14, as the C functions return it.
+    /// The refusal's number, from 1 to 15, as the C functions return it.
     ///
     /// ```
     /// assert_eq!(fsrs6::Refusal::Day.number(), 7);
@@ -65,12 +68,12 @@ impl Refusal {
         self as u32
     }
 
-    /// What a returned number says. The library is proved to return no number above 14, so what stands here for such a
+    /// What a returned number says. The library is proved to return no number above 15, so what stands here for such a
     /// number, the last refusal, is never seen; it spares every caller a panic or a variant of its own.
     pub(crate) fn accepted<T>(number: u32, answer: T) -> Result<T, Refusal> {
         match number {
             0 => Ok(answer),
-            n => Err(Refusal::ALL.get(n as usize - 1).copied().unwrap_or(Refusal::Import)),
+            n => Err(Refusal::ALL.get(n as usize - 1).copied().unwrap_or(Refusal::Earlier)),
         }
     }
 }
@@ -92,6 +95,7 @@ impl fmt::Display for Refusal {
             Refusal::FillingCount => "a weight set to fill has not 0, 17, 19 or 21 entries",
             Refusal::Scalar => "an argument is not finite or out of range",
             Refusal::Import => "a card from SM-2 gets no finite stability or difficulty",
+            Refusal::Earlier => "the day is earlier than the one on which the card was last seen",
         })
     }
 }

@@ -98,7 +98,7 @@ macro_rules! function {
     };
 }
 
-const FORMULAS: [Function; 11] = [
+const FORMULAS: [Function; 12] = [
     function!(|x| power_forgetting_curve(&x.w, x.step.day, x.step.state.stability)),
     function!(|x| next_interval(&x.w, x.step.state.stability, 0.9)),
     function!(|x| init_difficulty(&x.w, x.rating)),
@@ -109,6 +109,7 @@ const FORMULAS: [Function; 11] = [
     function!(|x| stability_short_term(&x.w, x.step.state.stability, x.rating)),
     function!(|x| first_state(&x.w, x.rating)),
     function!(|x| next_state(&x.w, x.step.state, x.step.day, x.rating)),
+    function!(|x| next_state_on(&x.w, Seen { state: x.step.state, day: 19000 }, 19004, x.rating)),
     function!(|x| memory_state_from_sm2(&x.w, 2.5, x.step.state.stability, 0.9)),
 ];
 const FILL: Function = function!(|x| check_and_fill_parameters(&x.w));
@@ -177,6 +178,40 @@ fn first_reviews_are_refused() {
     refused(&w, Refusal::WeightBox);
     refused(&w[..20], Refusal::WeightCount);
     refused(&[], Refusal::WeightCount);
+}
+
+/// 1, 2, 13 and 15, in this order.
+#[test]
+fn days_are_refused() {
+    let mut w = Call::good().w;
+    let none = State { stability: f32::NAN, difficulty: 6.0 };
+    let state = Call::good().step.state;
+    let refused = |w: &[f32], state, seen, day, refusal| {
+        assert_eq!(next_state_on(w, Seen { state, day: seen }, day, 3), Err(refusal), "{seen} {day}")
+    };
+    for (seen, day) in [(1, 0), (MAX_DAY, 0), (MAX_DAY, MAX_DAY - 1)] {
+        refused(&w, state, seen, day, Refusal::Earlier);
+        refused(&w, none, seen, day, Refusal::Scalar);
+    }
+    for (seen, day) in [(0, MAX_DAY + 1), (MAX_DAY + 1, 0), (MAX_DAY + 1, MAX_DAY + 1), (u32::MAX, 5), (5, u32::MAX)] {
+        refused(&w, state, seen, day, Refusal::Scalar);
+    }
+    refused(&w[..20], none, 5, 4, Refusal::WeightCount);
+    w[20] = 1.5;
+    refused(&w, none, 5, 4, Refusal::WeightBox);
+}
+
+/// The days between are what `next_state` is told, and the day is carried on.
+#[test]
+fn days_are_carried() {
+    let x = Call::good();
+    for (seen, day) in [(0, 0), (0, 1), (7, 7), (19000, 19004), (0, MAX_DAY), (MAX_DAY, MAX_DAY), (99999, MAX_DAY)] {
+        for rating in 0..=5 {
+            let after = next_state_on(&x.w, Seen { state: x.step.state, day: seen }, day, rating).expect("a review");
+            assert_eq!(Ok(after.state), next_state(&x.w, x.step.state, (day - seen) as f32, rating));
+            assert_eq!(after.day, day);
+        }
+    }
 }
 
 #[test]

@@ -108,6 +108,13 @@ fn study() {
                 let state = State { stability: x, difficulty: y };
                 two(next_state(w, state, z, a[3] as u32))
             }
+            'O' => {
+                let seen = Seen { state: State { stability: x, difficulty: y }, day: a[2] as u32 };
+                let is = outcome(next_state_on(w, seen, a[3] as u32, a[4] as u32), |q| {
+                    vec![single_bits(q.state.stability), single_bits(q.state.difficulty), q.day.into()]
+                });
+                return Some((is, (a[5], if a[5] == 0 { a[6..].to_vec() } else { vec![] })));
+            }
             'P' => two(memory_state_from_sm2(w, x, y, z)),
             _ => return None,
         };

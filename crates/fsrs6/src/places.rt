@@ -10,6 +10,14 @@ pub fn put_f32(single: &mut f32, refusal: u32, x: f32)
     }
 }
 
+pub fn put_u32(whole: &mut u32, refusal: u32, x: u32)
+    ensures { λ r. ⌜ now (whole .exit) ≡ written refusal x (now (whole .entry)) ⌝ }
+{
+    if refusal == 0 {
+        *whole = x;
+    }
+}
+
 pub fn put_f64(double: &mut f64, refusal: u32, x: f64)
     ensures { λ r. ⌜ now (double .exit) ≡ written refusal x (now (double .entry)) ⌝ }
 {

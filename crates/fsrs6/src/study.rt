@@ -15,7 +15,9 @@ ghost use Rattle.model_v6.specs.Answers.{
   sm2Scalar,
 };
 ghost use Rattle.model_v6.specs.Filling.{fillAnswer};
+ghost use Rattle.model_v6.specs.Seen.{onDayScalar};
 use crate::places::put_f32;
+use crate::places::put_u32;
 use crate::places::put_weights;
 use model_v6::curve::next_interval_scalar;
 use model_v6::curve::power_forgetting_curve_scalar;
@@ -23,6 +25,8 @@ use model_v6::difficulty::init_difficulty_scalar;
 use model_v6::difficulty::mean_reversion_scalar;
 use model_v6::difficulty::next_difficulty_scalar;
 use model_v6::filling::check_and_fill_parameters_fsrs6;
+use model_v6::seen::Seen;
+use model_v6::seen::next_state_on_scalar;
 use model_v6::sm2::memory_state_from_sm2_scalar;
 use model_v6::stability::stability_after_failure_scalar;
 use model_v6::stability::stability_after_success_scalar;
@@ -197,6 +201,40 @@ pub extern "C" fn fsrs_next_state(
     let next = a.state;
     put_f32(next_stability, a.refusal, next.stability);
     put_f32(next_difficulty, a.refusal, next.difficulty);
+    a.refusal
+}
+
+// The places may be the variables that the three numbers came from: a refused call leaves the given state in them.
+#[no_mangle]
+pub extern "C" fn fsrs_next_state_on(
+    w: &[f32],
+    stability: f32,
+    difficulty: f32,
+    seen: u32,
+    day: u32,
+    rating: u32,
+    next_stability: &mut f32,
+    next_difficulty: &mut f32,
+    next_seen: &mut u32,
+) -> u32
+    ensures { λ n. ⌜
+        (let a = onDayScalar (now (w .entry)) (record { state = record { stability = stability; difficulty = difficulty }; day = seen }) day rating in
+        (n ≡ a .refusal) ×
+        (now («next_stability» .exit) ≡ written (a .refusal) (a .seen .state .stability) (now («next_stability» .entry))) ×
+        (now («next_difficulty» .exit) ≡ written (a .refusal) (a .seen .state .difficulty) (now («next_difficulty» .entry))) ×
+        (now («next_seen» .exit) ≡ written (a .refusal) (a .seen .day) (now («next_seen» .entry)))) ⌝ }
+{
+    let state = MemoryState {
+        stability,
+        difficulty,
+    };
+    let given = Seen { state, day: seen };
+    let a = next_state_on_scalar(w, given, day, rating);
+    let after = a.seen;
+    let next = after.state;
+    put_f32(next_stability, a.refusal, next.stability);
+    put_f32(next_difficulty, a.refusal, next.difficulty);
+    put_u32(next_seen, a.refusal, after.day);
     a.refusal
 }
 

@@ -9,6 +9,7 @@ pub mod Zeros
 pub mod Box
 pub mod States
 pub mod Curve
+pub mod Days
 pub mod Imports
 pub mod Ones
 pub mod Moves

@@ -4,16 +4,18 @@ use mathlib.Core.Bool.{Bool}
 use mathlib.Core.List.{List}
 use mathlib.Core.Path.{_≡_}
 use lib.Ieee.{Float}
-use borrow.Author.Tests.{eq-eqb, ne-eqb}
-use Rattle.model_v6.specs.Answers.{scalarRefusal, refusedState, acceptedState, stateDef}
+use borrow.Author.Tests.{ne-eqb}
+use Rattle.model_v6.specs.Answers.{scalarRefusal, acceptedState, stateDef}
 use Rattle.model_v6.specs.declared.state.MemoryState.{MemoryState}
 
 pub next-refused :
-    (w : List Float) (good : Bool) (m : MemoryState) (n : ℕ) → n ≡ scalarRefusal w good → (n ≡ 0 → ⊥) → refusedState n ≡ stateDef w good m
+    (w : List Float) (good : Bool) (back m : MemoryState) (n : ℕ) → n ≡ scalarRefusal w good → (n ≡ 0 → ⊥)
+    → record { refusal = n; state = back } ≡ stateDef w good back m
 unfolding stateDef
-next-refused w good m n e h = rw (← e, ne-eqb _ 0 h)
+next-refused w good back m n e h = rw (← e, ne-eqb _ 0 h)
 
 pub next-accepted :
-    (w : List Float) (good : Bool) (m : MemoryState) (n : ℕ) → n ≡ scalarRefusal w good → n ≡ 0 → acceptedState m ≡ stateDef w good m
+    (w : List Float) (good : Bool) (back m : MemoryState) (n : ℕ) → n ≡ scalarRefusal w good → n ≡ 0
+    → acceptedState m ≡ stateDef w good back m
 unfolding stateDef
-next-accepted w good m n e h = rw (← e, eq-eqb _ 0 h)
+next-accepted w good back m n e h = rw (← e, h)

@@ -1,5 +1,5 @@
 -- What the entries of model_v6.rs answer, by document 01's refusals: 1 and 2 for the weights, then 13 for an argument, and change request K1's 14
--- for a deck from SM-2. A refusal gives +0.0. Assumes nothing.
+-- for a deck from SM-2. A refusal gives +0.0, and a refused step the state that it was given, by change request K2. Assumes nothing.
 use Prim.Native.Nat.{ℕ}
 use mathlib.Core.Bool.{Bool, _&&_, cond}
 use mathlib.Core.List.{List}
@@ -32,15 +32,18 @@ accepted x = record { refusal = 0; value = x }
 unfoldable pub scalarDef : (w : List Float) (good : Bool) (x : Float) → Scalar
 scalarDef w good x = cond (eqb (scalarRefusal w good) 0) (accepted x) (refused (scalarRefusal w good))
 
+abbrev pub noMemory : MemoryState
+noMemory = record { stability = zero32; difficulty = zero32 }
+
 abbrev pub refusedState : ℕ → NextState
-refusedState n = record { refusal = n; state = record { stability = zero32; difficulty = zero32 } }
+refusedState n = record { refusal = n; state = noMemory }
 
 abbrev pub acceptedState : MemoryState → NextState
 acceptedState m = record { refusal = 0; state = m }
 
--- the same for a state
-unfoldable pub stateDef : (w : List Float) (good : Bool) (m : MemoryState) → NextState
-stateDef w good m = cond (eqb (scalarRefusal w good) 0) (acceptedState m) (refusedState (scalarRefusal w good))
+-- the same for a state, with what a refused call hands back
+unfoldable pub stateDef : (w : List Float) (good : Bool) (back m : MemoryState) → NextState
+stateDef w good back m = let n = scalarRefusal w good in record { refusal = n; state = cond (eqb n 0) m back }
 
 -- ---- row 13: 'anything not finite', 'stability, difficulty or retrievability outside [0.0001,36500], [1,10], [0,1], or rating
 -- outside 1-4'
@@ -80,13 +83,13 @@ meanReversionScalar w init current = scalarDef w (finite init && finite current)
 unfoldable pub nextDifficultyScalar : (w : List Float) (d : Float) (rating : ℕ) → Scalar
 nextDifficultyScalar w d rating = scalarDef w (difficultyGood d && gradeGood rating) (nextDifficultyDef w d rating)
 
--- any rating is taken: 'clamps any whole rating to 1-4'
+-- any rating is taken: 'clamps any whole rating to 1-4'. Change request K2: 'from now on a refused step hands back the given state in place of zeros'
 unfoldable pub nextStateScalar : (w : List Float) (state : MemoryState) (delta-t : Float) (rating : ℕ) → NextState
-nextStateScalar w state delta-t rating = stateDef w (finiteMemory state && dayGood delta-t) (nextStateDef w state delta-t rating)
+nextStateScalar w state delta-t rating = stateDef w (finiteMemory state && dayGood delta-t) state (nextStateDef w state delta-t rating)
 
 -- first_state_scalar, by change request K11
 unfoldable pub firstStateScalar : (w : List Float) (rating : ℕ) → NextState
-firstStateScalar w rating = stateDef w (gradeGood rating) (firstStateDef w rating)
+firstStateScalar w rating = stateDef w (gradeGood rating) noMemory (firstStateDef w rating)
 
 -- memory_state_from_sm2_scalar: 'if !stability.is_finite() || !difficulty.is_finite()', asked before the clamp, is 14, after 1, 2 and 13
 unfoldable pub sm2Refusal : (w : List Float) (ease interval retention : Float) → ℕ

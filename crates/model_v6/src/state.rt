@@ -16,7 +16,8 @@ pub struct MemoryState {
     pub difficulty: f32,
 }
 
-// The number of a refusal, 0 where there is none, and the state, of +0.0 where there is one.
+// The number of a refusal, 0 where there is none, and the state. Where there is one, a step hands back the state that it was
+// given, and an entry that was given none has +0.0.
 pub struct NextState {
     pub refusal: u32,
     pub state: MemoryState,
@@ -47,7 +48,7 @@ pub fn next_state_scalar(w: &[f32], state: MemoryState, delta_t: f32, rating: u3
 {
     let n = scalar_refusal(w, both(is_finite_state(state), is_day(delta_t)));
     if n != 0 {
-        return refused_state(n);
+        return NextState { refusal: n, state };
     }
     let v = copy_weights(w);
     let next = next_state(&v, state, delta_t, rating);

@@ -15,6 +15,7 @@ use Rattle.fsrs6.proofs.arithmetic.fsrs_round_f64
 use Rattle.fsrs6.proofs.study.fsrs_power_forgetting_curve
 use Rattle.fsrs6.proofs.study.fsrs_next_interval
 use Rattle.fsrs6.proofs.study.fsrs_next_state
+use Rattle.fsrs6.proofs.study.fsrs_next_state_on
 use Rattle.fsrs6.proofs.study.fsrs_first_state
 use Rattle.fsrs6.proofs.study.fsrs_memory_state_from_sm2
 use Rattle.fsrs6.proofs.study.fsrs_check_and_fill_parameters
@@ -79,6 +80,9 @@ one-fsrs-next-interval = one (λ κs a o c. c .0 ⨾ none ⨾ none ⨾ none ⨾ 
 
 pub one-fsrs-next-state : One fsrs_next_state.Kinds.ps fsrs_next_state.Kinds.r fsrs_next_state.Reads.Post
 one-fsrs-next-state = one (λ κs a o c. c .0 ⨾ none ⨾ none ⨾ none ⨾ none ⨾ none ⨾ c .1 ⨾ c .2 ⨾ end)
+
+pub one-fsrs-next-state-on : One fsrs_next_state_on.Kinds.ps fsrs_next_state_on.Kinds.r fsrs_next_state_on.Reads.Post
+one-fsrs-next-state-on = one (λ κs a o c. c .0 ⨾ none ⨾ none ⨾ none ⨾ none ⨾ none ⨾ none ⨾ c .1 ⨾ c .2 ⨾ c .3 ⨾ end)
 
 pub one-fsrs-first-state : One fsrs_first_state.Kinds.ps fsrs_first_state.Kinds.r fsrs_first_state.Reads.Post
 one-fsrs-first-state = one (λ κs a o c. c .0 ⨾ none ⨾ none ⨾ c .1 ⨾ c .2 ⨾ end)

@@ -31,6 +31,7 @@ use Rattle.model_v6.proofs.stability.stability_after_failure_scalar
 use Rattle.model_v6.proofs.stability.stability_short_term_scalar
 use Rattle.model_v6.proofs.state.next_state_scalar
 use Rattle.model_v6.proofs.state.first_state_scalar
+use Rattle.model_v6.proofs.seen.next_state_on_scalar
 use Rattle.model_v6.proofs.sm2.memory_state_from_sm2_scalar
 
 -- soft::flags
@@ -137,6 +138,10 @@ one-next-state-scalar = one (λ κs a o c. c ⨾ none ⨾ none ⨾ none ⨾ none
 
 pub one-first-state-scalar : One first_state_scalar.Kinds.ps first_state_scalar.Kinds.r first_state_scalar.Reads.Post
 one-first-state-scalar = one (λ κs a o c. c ⨾ none ⨾ none ⨾ end)
+
+-- model_v6::seen
+pub one-next-state-on-scalar : One next_state_on_scalar.Kinds.ps next_state_on_scalar.Kinds.r next_state_on_scalar.Reads.Post
+one-next-state-on-scalar = one (λ κs a o c. c ⨾ none ⨾ none ⨾ none ⨾ none ⨾ end)
 
 -- model_v6::sm2
 pub one-memory-state-from-sm2-scalar : One memory_state_from_sm2_scalar.Kinds.ps memory_state_from_sm2_scalar.Kinds.r memory_state_from_sm2_scalar.Reads.Post

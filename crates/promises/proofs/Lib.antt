@@ -3,6 +3,7 @@ pub mod Aligned
 -- Why the promises hold.
 pub mod reading
 pub mod Frozen
+pub mod Carried
 pub mod Imported
 pub mod Weightless
 pub mod Twelve

@@ -3,9 +3,10 @@ use Rattle.laws.proofs.Distances.Kernels.{kernels}
 use Rattle.laws.proofs.Distances.minus.Laws.{minus}
 use Rattle.promises.specs.Promises.{Promises}
 use Rattle.promises.proofs.Aligned.{aligned}
+use Rattle.promises.proofs.Carried.{carried}
 use Rattle.promises.proofs.Twelve.{twelve}
 use Rattle.promises.proofs.Frozen.{demand3}
 use Rattle.promises.proofs.Imported.{imported}
 
 pub promises : Promises
-promises = record { distances = kernels; twelve-values = twelve; frozen-weights = demand3; exp-less-one = minus; from-sm2 = imported; aligned-at-the-end = aligned }
+promises = record { distances = kernels; twelve-values = twelve; frozen-weights = demand3; exp-less-one = minus; from-sm2 = imported; aligned-at-the-end = aligned; last-seen = carried }

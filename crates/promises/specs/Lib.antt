@@ -1,5 +1,6 @@
 pub mod Aligned
 pub mod CallReads
+pub mod Carried
 pub mod Frozen
 pub mod Imported
 pub mod LossCalls

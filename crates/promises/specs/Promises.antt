@@ -3,6 +3,7 @@
 use lib.Ieee.{Format}
 use Rattle.laws.specs.Distances.{Kernels, Minus}
 use Rattle.promises.specs.Aligned.{Aligned}
+use Rattle.promises.specs.Carried.{Carried}
 use Rattle.promises.specs.Twelve.{Twelve}
 use Rattle.promises.specs.Frozen.{Demand3}
 use Rattle.promises.specs.Imported.{Imported}
@@ -19,3 +20,5 @@ pub record Promises : Type 0 where
   pub from-sm2 : Imported
   -- change request K5: a deck at the end of its tables is given what it is given at their start (Aligned.antt)
   pub aligned-at-the-end : Aligned
+  -- change request K2: a review on a day, of a state that carries the day when its card was last seen (Carried.antt)
+  pub last-seen : Carried

@@ -169,8 +169,13 @@ fn run_study() {
         check_and_fill_parameters_fsrs6 power_forgetting_curve_scalar next_interval_scalar \
         stability_after_success_scalar stability_after_failure_scalar stability_short_term_scalar \
         init_difficulty_scalar mean_reversion_scalar next_difficulty_scalar next_state_scalar \
-        memory_state_from_sm2_scalar malformed ";
-    run_list(Kind::Study, b"study", b"cxnfiosvdpqtbaukFCISLTEMDNP", names);
+        memory_state_from_sm2_scalar next_state_on_scalar malformed ";
+    run_list(
+        Kind::Study,
+        b"study",
+        b"cxnfiosvdpqtbaukFCISLTEMDNPO",
+        names,
+    );
 }
 
 fn run_losses(name: &[u8]) {

@@ -4,8 +4,10 @@ mod answers;
 use crate::patterns::f32_of;
 use crate::patterns::u32_of;
 use crate::study::answers::is_filled;
+use crate::study::answers::is_next;
 use crate::study::answers::is_refusal;
 use crate::study::answers::is_scalar;
+use crate::study::answers::is_seen;
 use crate::study::answers::is_state;
 use crate::study::answers::is_truth;
 use crate::study::answers::is_value;
@@ -13,6 +15,8 @@ use crate::study::answers::is_weights;
 use domain::floats;
 use domain::limits;
 use model_v6::curve;
+use model_v6::seen::Seen;
+use model_v6::seen::next_state_on_scalar;
 use model_v6::state;
 use model_v6::state::MemoryState;
 
@@ -20,6 +24,7 @@ use model_v6::state::MemoryState;
 pub fn is_call(letter: u8, n: usize) -> bool {
     match letter {
         b'u' | b'k' | b'F' => n == 22,
+        b'O' => n == 9,
         _ => n == 7,
     }
 }
@@ -61,9 +66,24 @@ fn state_passes(k: &[u64; 640], w: &[f32]) -> bool {
         stability: f32_of(k[0]),
         difficulty: f32_of(k[1]),
     };
-    is_state(
+    is_next(
         k,
         state::next_state_scalar(w, given, f32_of(k[2]), u32_of(k[3])),
+    )
+}
+
+fn seen_passes(k: &[u64; 640], w: &[f32]) -> bool {
+    let state = MemoryState {
+        stability: f32_of(k[0]),
+        difficulty: f32_of(k[1]),
+    };
+    let given = Seen {
+        state,
+        day: u32_of(k[2]),
+    };
+    is_seen(
+        k,
+        next_state_on_scalar(w, given, u32_of(k[3]), u32_of(k[4])),
     )
 }
 
@@ -96,6 +116,7 @@ fn model_passes(letter: u8, k: &[u64; 640], w: &[f32]) -> bool {
             model_v6::difficulty::next_difficulty_scalar(w, x, u32_of(k[1])),
         ),
         b'N' => state_passes(k, w),
+        b'O' => seen_passes(k, w),
         b'P' => is_state(k, model_v6::sm2::memory_state_from_sm2_scalar(w, x, y, z)),
         _ => false,
     }

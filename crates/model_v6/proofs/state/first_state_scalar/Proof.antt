@@ -32,7 +32,7 @@ unfolding firstStateScalar
 returns c =
     let number = c .before .before in
     rw (← number .before .is-rating .ensures)
-    (c .refused-state .ensures ∙ next-refused _ _ _ _ (number .scalar-refusal .ensures) (c .before .if1 .taken))
+    (c .refused-state .ensures ∙ next-refused _ _ _ _ _ (number .scalar-refusal .ensures) (c .before .if1 .taken))
 
 copy-weights-requires : tie.Need-copy-weights-requires
 copy-weights-requires c κs = search needs
@@ -54,7 +54,7 @@ returns-2 c =
       c .first-state .ensures,
       answers-copied _ _ _ _ e h (copy .copy-weights .ensures),
     )
-    (next-accepted _ _ _ _ e h)
+    (next-accepted _ _ _ _ _ e h)
 
 pub first-state-scalar-spec : {M : Type 1} → statement M
 first-state-scalar-spec =

@@ -1,4 +1,3 @@
-use mathlib.Core.Path.{_∙_}
 use borrow.Author.Needs.{needs}
 use Rattle.model_v6.specs.Answers.{nextStateScalar}
 use Rattle.model_v6.proofs.Next.{next-refused, next-accepted}
@@ -18,16 +17,13 @@ both-requires c κs = search needs
 scalar-refusal-requires : tie.Need-scalar-refusal-requires
 scalar-refusal-requires c κs = search needs
 
-refused-state-requires : tie.Need-refused-state-requires
-refused-state-requires c κs = search needs
-
 returns : tie.Need-returns
 unfolding nextStateScalar
 returns c =
-    let number = c .before .before in
+    let number = c .before in
     let tests = number .before in
     rw (← tests .before .before .is-finite-state .ensures, ← tests .before .is-day .ensures, ← tests .both .ensures)
-    (c .refused-state .ensures ∙ next-refused _ _ _ _ (number .scalar-refusal .ensures) (c .before .if1 .taken))
+    (next-refused _ _ _ _ _ (number .scalar-refusal .ensures) (c .if1 .taken))
 
 copy-weights-requires : tie.Need-copy-weights-requires
 copy-weights-requires c κs = search needs
@@ -50,7 +46,7 @@ returns-2 c =
       c .next-state .ensures,
       answers-copied _ _ _ _ e h (copy .copy-weights .ensures),
     )
-    (next-accepted _ _ _ _ e h)
+    (next-accepted _ _ _ _ _ e h)
 
 pub next-state-scalar-spec : {M : Type 1} → statement M
 next-state-scalar-spec =
@@ -60,7 +56,6 @@ next-state-scalar-spec =
     is-day-requires
     both-requires
     scalar-refusal-requires
-    refused-state-requires
     returns
     copy-weights-requires
     next-state-requires
