@@ -30,7 +30,7 @@ use denote.Exit.{yes}
 use denote.RattleType.{owns}
 use denote.Laws.{Is, shows}
 use denote.Memory.{pointee}
-use denote.Plain.{Nothing, uint-vals, uint-tells, uint-makes}
+use denote.Plain.{uint-vals, uint-tells, uint-makes}
 use denote.Ref.{RefT}
 use denote.Slice.{sliceTy, sliceVal, MutSlice, Room, slice-vals, mut-slice-tells, ShrSlice, shr-slice-tells, shr-slice-copy}
 use denote.Signature.{plain}
@@ -68,7 +68,7 @@ use Rattle.columns.proofs.step_records.Scored as O
 use Rattle.columns.proofs.step_records.Scored.Laws as O′
 use Rattle.columns.proofs.step_records.Lent.{LentAgain, lends-again, comes-back}
 use Rattle.columns.proofs.step_records.Steps.{steps-none, steps-next, steps-length, run-next, scored-next, grads-next}
-use Rattle.columns.proofs.step_records.Walk.{holds, fails, one-more, params-val, state-val, none-val, none-is, counts, Store, records-at, records-val, Lent, to-store, goes-store}
+use Rattle.columns.proofs.step_records.Walk.{holds, fails, one-more, params-val, state-val, none-val, none-is, counts, Store, records-at, records-val, stores}
 use Rattle.columns.proofs.step_records.card_row as row
 use Rattle.columns.proofs.step_records.card_row.Symbol as row-def
 use Rattle.columns.proofs.step_records.card_row.Symbol.{name as #row}
@@ -314,9 +314,6 @@ module _ {M : Type 1} (𝓤 : URA M) (H : Heap 𝓤) (A : Atoms 𝓤) (W : Given
         abbrev last : RowLasts → List Float
         last zs = zs .1 .1 .1 .1 .1 .1 .1 .1 .1 .1 .1 .0
 
-        abbrev StoreLasts : Type 0
-        StoreLasts = List StepRecord × (Unit {0} × (Unit {0} × Unit {0}))
-
         -- a turn that scores a row and stores its record
         more : (i : ℕ) (X : SProp 𝓤) → i < n → Is R.the-row (after i) (run-val (after i) ∷ []) → (Is R.the-row (after (suc i)) (run-val (after (suc i)) ∷ []) → ent 𝓤 (⋆ 𝓤 H A (At (suc i))) X)
             → ent 𝓤 (⋆ 𝓤 H A (At i)) (Wp 𝓤 H C Λ En mir′.turn-1 (afterTurn 𝓤 H X Left))
@@ -355,26 +352,18 @@ module _ {M : Type 1} (𝓤 : URA M) (H : Heap 𝓤) (A : Atoms 𝓤) (W : Given
             assigns ! (agg ! (and-then ! (load ! (from ! (stop !)) (look ! 15 refl)) (and-then ! (load ! (from ! (fld ! refl (stop !))) (look-in ! 28 (sub ! 1 refl (whole !)))) (no-more !)))) (from ! (stop !)) (init ! 16 refl (tt, (tt, (record { fits = gx .0 }, tt)))) $
             rewrite ! 16 (λ (m : ℕ). ‵ (fat fullShare (sliceTy ref-ty) l₂₂ 0 (sliceVal (b, o) m))) (sym (steps-length p hist i xs)) refl $
             assigns ! (un ! (load ! (from ! (stop !)) (look ! 9 refl)) (record { fits = wide })) (from ! (stop !)) (init ! 17 refl (tt, record { fits = wide })) $
-            lft-new ! tt (λ μ. move ! (7 ∷ 8 ∷ []) $
-            use2 W (later (some (λ (ε : GName). ‵ (Lent 𝓤 H A W mem run b o μ ε (steps i)) ⊛ ‵ (LentAgain T.the-row κ₄ (μ ∷ []) q₄ γ b o ε (steps i))))) (lends-again T.the-row κ₄ (μ ∷ []) q₄ γ b o 𝓤 H A W (named 4) (named 0) (steps i)) $ await ! tt $ pick ! (λ ε. split ! $
-            move ! (2 ∷ 0 ∷ []) $ use2 W (raw (Store 𝓤 H A W mem run b o .pre (to-store 𝓤 H A W mem run b o μ ε (steps i) i (r .step)))) (goes-store 𝓤 H A W mem run b o μ ε (steps i) i (r .step) wide (LL.owed O.the-type O′.the-laws r _ ir .1 .0)) $
-            -- [what the call asks; what is lent 1; the tokens 2; the step gradients 3; the token of κ₅ 4; _; _; the tables 7; l₁₄ 8 .. l₂₃ 17; ..]
-            calls-at ! fm (Store 𝓤 H A W mem run b o) known′ (to-store 𝓤 H A W mem run b o μ ε (steps i) i (r .step)) (and-then ! (load ! (from ! (stop !)) (look ! 16 refl)) (and-then ! (load ! (from ! (stop !)) (look ! 17 refl)) (and-then ! (load ! (from ! (fld ! refl (stop !))) (look-in ! 10 (sub ! 1 refl (whole !)))) (no-more !)))) (λ u.
-            use1 W (later (some (λ (w : Unit {0}). ((‵ (flft (μ ∷ []) fullShare) ⊛ ‵ ftrue) ⊛ ‵ (Nothing .own w (u ∷ []))) ⊛ raw (ensured 𝓤 H A st.ended (st.clauses 𝓤 H A mem run) (μ ∷ [], tt) (records-at 𝓤 H A W mem run b o ε (steps i), (i, (r .step, tt))) tt w)))) (id⊢ 𝓤 _) $ await ! tt $ pick ! (λ w.
-            split ! $ move ! (1 ∷ []) $ use1 W (some (λ (cs : StoreLasts). ‵ (lasts st.ended (μ ∷ [], tt) (records-at 𝓤 H A W mem run b o ε (steps i), (i, (r .step, tt))) cs) ⊛ raw (fact 𝓤 (cs .0 ≡ set (steps i) i (r .step))))) (id⊢ 𝓤 _) $ pick ! (λ cs.
-            split ! $ move ! (1 ∷ []) $ heard ! (cs .0 ≡ set (steps i) i (r .step)) (λ ec. fsplit ! $ fsplit ! $ move ! (1 ∷ []) $ feqL ! (λ l′.
-            move ! (2 ∷ []) $ split ! $ move ! (1 ∷ []) $ feqL ! (λ eu. split ! $ lft-end ! tt $ move ! (0 ∷ 4 ∷ 2 ∷ []) $
-            use3 W (later (‵ (Recs (cs .0) (cv (steps i))) ⊛ ‵ (flft κ₄ q₄))) (comes-back T.the-row κ₄ (μ ∷ []) q₄ γ b o 𝓤 H A W (named 4) (named 0) (steps i) ε (cs .0) room l′) $ await ! tt $ split ! $
-            -- [the records; the token of κ₄; _; _; the tokens 4; the step gradients 5; the token of κ₅ 6; _; _; the tables 9; l₁₄ 10 .. l₂₃ 19; l₁ 20 .. l₁₃ 32; l₀ 33; deaths 34 .. 57]
-            land ! (from ! (stop !)) (init ! 16 refl (subst (λ (y : Val). Holds (hasTy tyUnit y) × WT y) (sym (ap only eu)) (tt, tt))) $
-            assigns-last ! (bin ! (load ! (from ! (stop !)) (look ! 11 refl)) (lit ! tt) (record { fits = next-fits })) (from ! (stop !)) (store ! 11 refl (tt, record { fits = next-fits })) $
-            rewrite ! 11 (λ (j : ℕ). ‵ (fat fullShare half l₁₅ 0 (vint w32 j))) (one-more i) refl $
-            rewrite ! 10 (λ (z : Run). ‵ (fat fullShare R′.mir l₁₄ 0 (run-val z))) (run-next p hist label weight i r (e .0)) refl $
-            rewrite ! 0 (λ (m : ℕ). ‵ (Recs (cs .0) (sliceVal (b, o) m))) (sym l′) refl $
-            rewrite ! 0 (λ (ws : List StepRecord). ‵ (Recs ws (cv ws))) (steps-next p hist i (r .step) xs (cs .0) (scored-next p hist label weight i r (e .0)) ec) refl $
-            forget ! 12 refl $ forget ! 13 refl $ forget ! 14 refl $ forget ! 15 refl $ forget ! 16 refl $ forget ! 17 refl $ forget ! 18 refl $ forget ! 19 refl $
-            keep ! (0 ∷ 1 ∷ 5 ∷ 6 ∷ 10 ∷ 11 ∷ 12 ∷ 13 ∷ 14 ∷ 15 ∷ 16 ∷ 17 ∷ 18 ∷ 19 ∷ 20 ∷ 21 ∷ 22 ∷ 23 ∷ 24 ∷ 25 ∷ 26 ∷ 27 ∷ 28 ∷ 29 ∷ 30 ∷ 31 ∷ 32 ∷ 33 ∷ 4 ∷ 9 ∷ 34 ∷ 35 ∷ 36 ∷ 37 ∷ 38 ∷ 39 ∷ 40 ∷ 41 ∷ 42 ∷ 43 ∷ 44 ∷ 45 ∷ 46 ∷ 47 ∷ 48 ∷ 49 ∷ 50 ∷ 51 ∷ 52 ∷ 53 ∷ 54 ∷ 55 ∷ 56 ∷ 57 ∷ []) $
-            by ! (next (subst (λ (z : Run). Is R.the-row z (run-val z ∷ [])) (run-next p hist label weight i r (e .0)) (LL.owed O.the-type O′.the-laws r _ ir .0)))))))))))))))))))
+            move ! (6 ∷ 7 ∷ []) $ stores 𝓤 H A W mem run b o C Λ fm known′ (named 4) κ₄ q₄ γ (steps i) i (r .step) room wide (LL.owed O.the-type O′.the-laws r _ ir .1 .0)
+            -- [what the call asks; what is lent; then as below]
+            (λ μ ε. and-then ! (load ! (from ! (stop !)) (look ! 16 refl)) (and-then ! (load ! (from ! (stop !)) (look ! 17 refl)) (and-then ! (load ! (from ! (fld ! refl (stop !))) (look-in ! 10 (sub ! 1 refl (whole !)))) (no-more !)))) (λ u gu.
+            -- [the records; the token of κ₄; the tokens 2; the step gradients 3; the token of κ₅ 4; _; _; the tables 7; l₁₄ 8 .. l₂₃ 17; l₁ 18 .. l₁₃ 30; l₀ 31; deaths 32 .. 55]
+            land ! (from ! (stop !)) (init ! 14 refl gu) $
+            assigns-last ! (bin ! (load ! (from ! (stop !)) (look ! 9 refl)) (lit ! tt) (record { fits = next-fits })) (from ! (stop !)) (store ! 9 refl (tt, record { fits = next-fits })) $
+            rewrite ! 9 (λ (j : ℕ). ‵ (fat fullShare half l₁₅ 0 (vint w32 j))) (one-more i) refl $
+            rewrite ! 8 (λ (z : Run). ‵ (fat fullShare R′.mir l₁₄ 0 (run-val z))) (run-next p hist label weight i r (e .0)) refl $
+            rewrite ! 0 (λ (ws : List StepRecord). ‵ (Recs ws (cv ws))) (steps-next p hist i (r .step) xs (set (steps i) i (r .step)) (scored-next p hist label weight i r (e .0)) refl) refl $
+            forget ! 10 refl $ forget ! 11 refl $ forget ! 12 refl $ forget ! 13 refl $ forget ! 14 refl $ forget ! 15 refl $ forget ! 16 refl $ forget ! 17 refl $
+            keep ! (0 ∷ 1 ∷ 3 ∷ 4 ∷ 8 ∷ 9 ∷ 10 ∷ 11 ∷ 12 ∷ 13 ∷ 14 ∷ 15 ∷ 16 ∷ 17 ∷ 18 ∷ 19 ∷ 20 ∷ 21 ∷ 22 ∷ 23 ∷ 24 ∷ 25 ∷ 26 ∷ 27 ∷ 28 ∷ 29 ∷ 30 ∷ 31 ∷ 2 ∷ 7 ∷ 32 ∷ 33 ∷ 34 ∷ 35 ∷ 36 ∷ 37 ∷ 38 ∷ 39 ∷ 40 ∷ 41 ∷ 42 ∷ 43 ∷ 44 ∷ 45 ∷ 46 ∷ 47 ∷ 48 ∷ 49 ∷ 50 ∷ 51 ∷ 52 ∷ 53 ∷ 54 ∷ 55 ∷ []) $
+            by ! (next (subst (λ (z : Run). Is R.the-row z (run-val z ∷ [])) (run-next p hist label weight i r (e .0)) (LL.owed O.the-type O′.the-laws r _ ir .0))))))))))))
           where
             i-fits : i < 2 ^ 32
             i-fits = omega arith

@@ -21,16 +21,15 @@ use prog.Wp.{Heap, Out as Way, Env, afterSeq, afterBlock, afterTurn, Calls, Loop
 use ghost.Atoms.{Atoms, sem}
 use contract.Monad.{Fun, fact}
 use contract.Running.{givenOf, tables, tablesOf}
-use types.Kit.{Sq, runs, use2, use3, Given, Item, ‵, raw, _⊛_, some, later, ⋆, anyQ, atRet, _$_, _∵_, !, qed, by, move, keep, drop, use1, split, join, pick, rewrite, fsplit, fjoin, feqL, suffices, frame, await, done}
+use types.Kit.{Sq, runs, use2, Given, Item, ‵, raw, _⊛_, some, later, ⋆, anyQ, atRet, _$_, _∵_, !, qed, by, move, keep, drop, use1, split, join, pick, rewrite, fsplit, fjoin, suffices, frame, await, done}
 use types.Part.{whole, sub, look-in, agg}
-use types.Tokens.{lft-new, lft-end}
 use types.Run.{look, store, init, forget, stop, hop, fld, from, load, lit, float-lit, of-opd, bin, un, addr, assigns, assigns-last, stays, leaves-loop, and-then, no-more, land, returns, enter, alloc1, alloc0, params1, pass1, pass0, free1, free0, exec}
 use sound.WpLaws.{FmC, fmOf, WpFn-mono}
 use denote.Exit.{yes}
 use denote.RattleType.{owns}
 use denote.Laws.{Is, shows}
 use denote.Memory.{pointee}
-use denote.Plain.{Nothing, uint-vals, uint-tells, uint-makes}
+use denote.Plain.{uint-vals, uint-tells, uint-makes}
 use denote.Ref.{RefT}
 use denote.Slice.{sliceTy, sliceVal, MutSlice, Room, slice-vals, mut-slice-tells, ShrSlice, shr-slice-tells, shr-slice-copy}
 use denote.Signature.{plain}
@@ -59,9 +58,8 @@ use Rattle.forward.proofs.state.Stepped as O
 use Rattle.forward.proofs.state.Stepped.Laws as O′
 use Rattle.columns.specs.ForwardPass.{stateAt}
 use Rattle.columns.specs.StepRecords.{nextDef, stepsDef}
-use Rattle.columns.proofs.step_records.Lent.{LentAgain, lends-again, comes-back}
 use Rattle.columns.proofs.step_records.Steps.{state-next, steps-none, record-next, steps-next, steps-length}
-use Rattle.columns.proofs.step_records.Walk.{holds, fails, one-more, params-val, state-val, none-val, none-is, counts, Store, records-at, records-val, Lent, to-store, goes-store}
+use Rattle.columns.proofs.step_records.Walk.{holds, fails, one-more, params-val, state-val, none-val, none-is, counts, Store, records-at, records-val, stores}
 use Rattle.columns.proofs.step_records.prefix_row as row
 use Rattle.columns.proofs.step_records.prefix_row.Symbol as row-def
 use Rattle.columns.proofs.step_records.prefix_row.Symbol.{name as #row}
@@ -216,9 +214,6 @@ module _ {M : Type 1} (𝓤 : URA M) (H : Heap 𝓤) (A : Atoms 𝓤) (W : Given
         abbrev Left : Way → SProp 𝓤
         Left = afterBlock 𝓤 H (afterSeq 𝓤 H (Wp 𝓤 H C Λ En mir′.t-4 (atReturn 𝓤 H En Post)) (atReturn 𝓤 H En Post))
 
-        abbrev Lasts : Type 0
-        Lasts = List StepRecord × (Unit {0} × (Unit {0} × Unit {0}))
-
         -- a turn that stores one record
         more : (i : ℕ) (X : SProp 𝓤) → i < n → Is S.the-row (state i) (state-val (state i) ∷ []) → (Is S.the-row (state (suc i)) (state-val (state (suc i)) ∷ []) → ent 𝓤 (⋆ 𝓤 H A (At (suc i))) X)
             → ent 𝓤 (⋆ 𝓤 H A (At i)) (Wp 𝓤 H C Λ En mir′.turn-1 (afterTurn 𝓤 H X Left))
@@ -242,26 +237,18 @@ module _ {M : Type 1} (𝓤 : URA M) (H : Heap 𝓤) (A : Atoms 𝓤) (W : Given
             assigns ! (agg ! (and-then ! (load ! (from ! (stop !)) (look ! 9 refl)) (and-then ! (load ! (from ! (fld ! refl (stop !))) (look-in ! 19 (sub ! 1 refl (whole !)))) (no-more !)))) (from ! (stop !)) (init ! 10 refl (tt, (tt, (record { fits = gx .0 }, tt)))) $
             rewrite ! 10 (λ (m : ℕ). ‵ (fat fullShare (sliceTy ref-ty) l₁₅ 0 (sliceVal (b, o) m))) (sym (steps-length p hist i xs)) refl $
             assigns ! (un ! (load ! (from ! (stop !)) (look ! 5 refl)) (record { fits = wide })) (from ! (stop !)) (init ! 11 refl (tt, record { fits = wide })) $
-            lft-new ! tt (λ ν. move ! (3 ∷ 4 ∷ []) $
-            use2 W (later (some (λ (δ : GName). ‵ (Lent 𝓤 H A W mem run b o ν δ (steps i)) ⊛ ‵ (LentAgain T.the-row κ₂ (ν ∷ []) q₂ γ b o δ (steps i))))) (lends-again T.the-row κ₂ (ν ∷ []) q₂ γ b o 𝓤 H A W (named 2) (named 0) (steps i)) $ await ! tt $ pick ! (λ δ. split ! $
-            move ! (2 ∷ 0 ∷ []) $ use2 W (raw (Store 𝓤 H A W mem run b o .pre (to-store 𝓤 H A W mem run b o ν δ (steps i) i (r .step)))) (goes-store 𝓤 H A W mem run b o ν δ (steps i) i (r .step) wide (LL.owed O.the-type O′.the-laws r _ ir .1 .0)) $
-            -- [what the call asks; what is lent 1; the tokens 2; the histories 3; l₉ 4 .. l₁₆ 11; l₁ 12 .. l₈ 19; l₀ 20; deaths 21]
-            calls-at ! fm (Store 𝓤 H A W mem run b o) known′ (to-store 𝓤 H A W mem run b o ν δ (steps i) i (r .step)) (and-then ! (load ! (from ! (stop !)) (look ! 10 refl)) (and-then ! (load ! (from ! (stop !)) (look ! 11 refl)) (and-then ! (load ! (from ! (fld ! refl (stop !))) (look-in ! 6 (sub ! 1 refl (whole !)))) (no-more !)))) (λ u.
-            use1 W (later (some (λ (w : Unit {0}). ((‵ (flft (ν ∷ []) fullShare) ⊛ ‵ ftrue) ⊛ ‵ (Nothing .own w (u ∷ []))) ⊛ raw (ensured 𝓤 H A st.ended (st.clauses 𝓤 H A mem run) (ν ∷ [], tt) (records-at 𝓤 H A W mem run b o δ (steps i), (i, (r .step, tt))) tt w)))) (id⊢ 𝓤 _) $ await ! tt $ pick ! (λ w.
-            split ! $ move ! (1 ∷ []) $ use1 W (some (λ (zs : Lasts). ‵ (lasts st.ended (ν ∷ [], tt) (records-at 𝓤 H A W mem run b o δ (steps i), (i, (r .step, tt))) zs) ⊛ raw (fact 𝓤 (zs .0 ≡ set (steps i) i (r .step))))) (id⊢ 𝓤 _) $ pick ! (λ zs.
-            split ! $ move ! (1 ∷ []) $ heard ! (zs .0 ≡ set (steps i) i (r .step)) (λ ez. fsplit ! $ fsplit ! $ move ! (1 ∷ []) $ feqL ! (λ l.
-            move ! (2 ∷ []) $ split ! $ move ! (1 ∷ []) $ feqL ! (λ eu. split ! $ lft-end ! tt $ move ! (0 ∷ 4 ∷ 2 ∷ []) $
-            use3 W (later (‵ (Mine (zs .0) (cv (steps i))) ⊛ ‵ (flft κ₂ q₂))) (comes-back T.the-row κ₂ (ν ∷ []) q₂ γ b o 𝓤 H A W (named 2) (named 0) (steps i) δ (zs .0) room l) $ await ! tt $ split ! $
-            -- [the records; the token of κ₂; _; _; the tokens 4; the histories 5; l₉ 6 .. l₁₆ 13; l₁ 14 .. l₈ 21; l₀ 22; deaths 23 .. 39]
-            land ! (from ! (stop !)) (init ! 10 refl (subst (λ (y : Val). Holds (hasTy tyUnit y) × WT y) (sym (ap only eu)) (tt, tt))) $
-            assigns-last ! (bin ! (load ! (from ! (stop !)) (look ! 7 refl)) (lit ! tt) (record { fits = next-fits })) (from ! (stop !)) (store ! 7 refl (tt, record { fits = next-fits })) $
-            rewrite ! 7 (λ (j : ℕ). ‵ (fat fullShare half l₁₀ 0 (vint w32 j))) (one-more i) refl $
-            rewrite ! 6 (λ (z : State). ‵ (fat fullShare S′.mir l₉ 0 (state-val z))) (state-next p hist i r e) refl $
-            rewrite ! 0 (λ (m : ℕ). ‵ (Mine (zs .0) (sliceVal (b, o) m))) (sym l) refl $
-            rewrite ! 0 (λ (ws : List StepRecord). ‵ (Mine ws (cv ws))) (steps-next p hist i (r .step) xs (zs .0) (record-next p hist i r e) ez) refl $
-            forget ! 8 refl $ forget ! 9 refl $ forget ! 10 refl $ forget ! 11 refl $ forget ! 12 refl $ forget ! 13 refl $
-            keep ! (0 ∷ 1 ∷ 6 ∷ 7 ∷ 8 ∷ 9 ∷ 10 ∷ 11 ∷ 12 ∷ 13 ∷ 14 ∷ 15 ∷ 16 ∷ 17 ∷ 18 ∷ 19 ∷ 20 ∷ 21 ∷ 22 ∷ 4 ∷ 5 ∷ 23 ∷ 24 ∷ 25 ∷ 26 ∷ 27 ∷ 28 ∷ 29 ∷ 30 ∷ 31 ∷ 32 ∷ 33 ∷ 34 ∷ 35 ∷ 36 ∷ 37 ∷ 38 ∷ 39 ∷ []) $
-            by ! (next (subst (λ (z : State). Is S.the-row z (state-val z ∷ [])) (state-next p hist i r e) (LL.owed O.the-type O′.the-laws r _ ir .0)))))))))))))))
+            move ! (2 ∷ 3 ∷ []) $ stores 𝓤 H A W mem run b o C Λ fm known′ (named 2) κ₂ q₂ γ (steps i) i (r .step) room wide (LL.owed O.the-type O′.the-laws r _ ir .1 .0)
+            -- [what the call asks; what is lent; then as below]
+            (λ ν δ. and-then ! (load ! (from ! (stop !)) (look ! 10 refl)) (and-then ! (load ! (from ! (stop !)) (look ! 11 refl)) (and-then ! (load ! (from ! (fld ! refl (stop !))) (look-in ! 6 (sub ! 1 refl (whole !)))) (no-more !)))) (λ u gu.
+            -- [the records; the token of κ₂; the tokens 2; the histories 3; l₉ 4 .. l₁₆ 11; l₁ 12 .. l₈ 19; l₀ 20; deaths 21 .. 37]
+            land ! (from ! (stop !)) (init ! 8 refl gu) $
+            assigns-last ! (bin ! (load ! (from ! (stop !)) (look ! 5 refl)) (lit ! tt) (record { fits = next-fits })) (from ! (stop !)) (store ! 5 refl (tt, record { fits = next-fits })) $
+            rewrite ! 5 (λ (j : ℕ). ‵ (fat fullShare half l₁₀ 0 (vint w32 j))) (one-more i) refl $
+            rewrite ! 4 (λ (z : State). ‵ (fat fullShare S′.mir l₉ 0 (state-val z))) (state-next p hist i r e) refl $
+            rewrite ! 0 (λ (ws : List StepRecord). ‵ (Mine ws (cv ws))) (steps-next p hist i (r .step) xs (set (steps i) i (r .step)) (record-next p hist i r e) refl) refl $
+            forget ! 6 refl $ forget ! 7 refl $ forget ! 8 refl $ forget ! 9 refl $ forget ! 10 refl $ forget ! 11 refl $
+            keep ! (0 ∷ 1 ∷ 4 ∷ 5 ∷ 6 ∷ 7 ∷ 8 ∷ 9 ∷ 10 ∷ 11 ∷ 12 ∷ 13 ∷ 14 ∷ 15 ∷ 16 ∷ 17 ∷ 18 ∷ 19 ∷ 20 ∷ 2 ∷ 3 ∷ 21 ∷ 22 ∷ 23 ∷ 24 ∷ 25 ∷ 26 ∷ 27 ∷ 28 ∷ 29 ∷ 30 ∷ 31 ∷ 32 ∷ 33 ∷ 34 ∷ 35 ∷ 36 ∷ 37 ∷ []) $
+            by ! (next (subst (λ (z : State). Is S.the-row z (state-val z ∷ [])) (state-next p hist i r e) (LL.owed O.the-type O′.the-laws r _ ir .0))))))))
           where
             i-fits : i < 2 ^ 32
             i-fits = omega arith
