@@ -3,3 +3,4 @@ pub mod ForwardPass
 pub mod LastReview
 pub mod Records
 pub mod Scores
+pub mod StepRecords

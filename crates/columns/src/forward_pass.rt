@@ -26,7 +26,7 @@ pub struct Run {
 }
 
 // The state after a row: (0, 0) up to the first review.
-fn carried(row: u32, first: u32, next: State) -> State
+pub(crate) fn carried(row: u32, first: u32, next: State) -> State
     ensures { λ r. ⌜ r ≡ carriedDef row first next ⌝ }
 {
     if row < first {

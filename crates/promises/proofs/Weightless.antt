@@ -30,7 +30,7 @@ use Rattle.analytic_v6.specs.Cards.{cardLoss, cardSlots, cardGrads}
 use Rattle.promises.specs.Twelve.{IsZero, Weightless, unscored}
 
 -- 0 + 0
-no-more : zero64 +ᵈ zero64 ≡ zero64
+pub no-more : zero64 +ᵈ zero64 ≡ zero64
 unfolding add sum ofBits
 no-more = refl
 
@@ -98,7 +98,7 @@ module _ (p : RuntimeParams) (hist : History) (label weight : ℕ → Float) (n 
       (set-zero (gradsDef p hist label weight k xs) k row (rw (grads-length p hist label weight k xs) m) (grads k row xs (le-of-lt l) m) h)
 
 -- ---- a card of n rows, of which none may be
-either : {A : Type 0} (b : Bool) (a : A) → cond b a a ≡ a
+pub either : {A : Type 0} (b : Bool) (a : A) → cond b a a ≡ a
 either true a = refl
 either false a = refl
 

@@ -7,8 +7,8 @@ use native.Mathlib.Nat.{add-sub-cancel, le-of-lt, le-refl, lt-of-lt-of-le, sub-e
 use native.Mathlib.Omega.{arith}
 use borrow.Author.Tests.{ne-eqb, eqb-true, eqb-false}
 use lib.Dec.{eqb}
-use lib.Ieee.{Float, add, sum, ofBits}
-use Rattle.domain.specs.Doubles.{_+ᵈ_, zero64}
+use lib.Ieee.{Float}
+use Rattle.domain.specs.Doubles.{zero64}
 use Rattle.checks.specs.Batch.{History, Cards, lengthAt, history, labelAt, weightAt}
 use Rattle.checks.specs.Reads.{later, cardLabel}
 use Rattle.forward.specs.declared.parameters.RuntimeParams.{RuntimeParams}
@@ -24,12 +24,8 @@ use Rattle.analytic_v6.specs.Cards.{cardLoss, cardSlots}
 use Rattle.promises.specs.Aligned.{ShiftedCard}
 use Rattle.promises.proofs.shifting.States.{Behind, states-same, records-same, shifted-behind, padding-before}
 use Rattle.promises.proofs.shifting.Back.{Unscored, back-none, back-behind}
-use Rattle.promises.proofs.shifting.Weights.{Alike, weighed-alike, either, score-alike, loss-alike, grad-alike, slots-alike}
-
--- 0 + 0
-no-more : zero64 +ᵈ zero64 ≡ zero64
-unfolding add sum ofBits
-no-more = refl
+use Rattle.promises.proofs.shifting.Weights.{Alike, weighed-alike, score-alike, loss-alike, grad-alike, slots-alike}
+use Rattle.promises.proofs.Weightless.{no-more, either}
 
 last : (m f : ℕ) → (m ≡ 0 → ⊥) → m + f - 1 ≡ m - 1 + f
 last m f h = omega arith

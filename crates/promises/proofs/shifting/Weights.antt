@@ -1,6 +1,6 @@
 -- Weights of a review that count the same: they are, or both are zero, of either sign. Assumes nothing.
 use Prim.Native.Nat.{ℕ}
-use mathlib.Core.Bool.{Bool, true, false, cond}
+use mathlib.Core.Bool.{Bool, true, false}
 use mathlib.Core.List.{List}
 use mathlib.Core.Logic.{_⊎_, inl, inr}
 use mathlib.Core.Path.{_≡_, refl, sym, _∙_}
@@ -18,6 +18,7 @@ use Rattle.forward.specs.declared.parameters.RuntimeParams.{RuntimeParams}
 use Rattle.columns.specs.ForwardPass.{rowScore}
 use Rattle.columns.specs.LastReview.{lastLoss, lastGrad, lastSlots}
 use Rattle.columns.specs.Scores.{noScore, scoreDef}
+use Rattle.promises.proofs.Weightless.{either}
 
 abbrev pub Alike : (a b : Float) → Type 0
 Alike a b = (a ≡ b) ⊎ ((nonZero a ≡ false) × (nonZero b ≡ false))
@@ -38,10 +39,6 @@ module _ (a b : Align) (rx ry wx wy : Float) where
       go false h = inr (rw (padding-weightless ry wx (sym h)) none, padding (sym h))
 
 -- ---- a row's score
-pub either : {A : Type 0} (b : Bool) (a : A) → cond b a a ≡ a
-either true a = refl
-either false a = refl
-
 no-score : (row : ℕ) (r label w : Float) → nonZero w ≡ false → rowScore row r label w ≡ noScore
 unfolding nonZero rowScore scoreDef
 no-score row r label w e = rw (not-false (eq w zero32) e) (either (eqb row 0) noScore)
