@@ -23,10 +23,10 @@ module _ (n refusal : ℕ) (e : n ≡ refusal) where
   answer-accepted loss z = rw (← e, z)
 
   -- a refused call leaves a slice as it was
-  pub kept : (xs ys : List Float) → (n ≡ 0 → ⊥) → xs ≡ cond (eqb refusal 0) ys xs
+  pub kept : {E : Type 0} (xs ys : List E) → (n ≡ 0 → ⊥) → xs ≡ cond (eqb refusal 0) ys xs
   kept xs ys h = rw (← e, ne-eqb n 0 h)
 
-  pub moved : (xs ys : List Float) → n ≡ 0 → ys ≡ cond (eqb refusal 0) ys xs
+  pub moved : {E : Type 0} (xs ys : List E) → n ≡ 0 → ys ≡ cond (eqb refusal 0) ys xs
   moved xs ys z = rw (← e, eq-eqb n 0 z)
 
 -- the copy of accepted weights is the weights themselves

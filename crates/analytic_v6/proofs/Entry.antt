@@ -14,7 +14,8 @@ use Rattle.forward.specs.Params.{paramsDef}
 use Rattle.forward.specs.Step.{noState}
 use Rattle.forward.specs.declared.state.State.{State}
 use Rattle.backward.specs.Step.{stepGrad, stepMoved}
-use Rattle.analytic_v6.specs.Step.{stepRefusal, blank, stepped, trainingStep, noReverse, trainingReverse, reverseRefusal, reverseSlots}
+use Rattle.columns.specs.StepRecords.{noStep}
+use Rattle.analytic_v6.specs.Step.{stepRefusal, stepped, trainingStep, noReverse, trainingReverse, reverseRefusal, reverseSlots}
 
 no-weights : (m n : ℕ) (a : Bool) → a ≡ eqb m 0 → cond a n m ≡ 0 → m ≡ 0
 no-weights m n true e h = eqb-true _ _ (sym e)
@@ -28,7 +29,7 @@ module _ (w : List Float) (q : State) (day rating : Float) (row : ℕ) where
 
   pub step-refused :
       (n : ℕ) → n ≡ stepRefusal w true q day rating row → (n ≡ 0 → ⊥) →
-      record { refusal = n; state = noState; step = blank } ≡ trainingStep w q day rating row
+      record { refusal = n; state = noState; step = noStep } ≡ trainingStep w q day rating row
   unfolding trainingStep
   step-refused n e h = rw (← e, ne-eqb _ 0 h)
 

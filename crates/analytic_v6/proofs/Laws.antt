@@ -6,17 +6,16 @@ use lib.Ieee.{Float}
 use Rattle.checks.specs.Batch.{Prefixes, Cards}
 use Rattle.checks.specs.Refusals.{prefixLossRefusal, prefixGradRefusal, cardLossRefusal, cardGradRefusal}
 use Rattle.checks.proofs.Orders.{alone-accepted}
-use Rattle.columns.specs.Records.{roomDef}
 use Rattle.analytic_v6.specs.Prefixes.{batchLossAndGrad, batchLoss}
 use Rattle.analytic_v6.specs.Cards.{cardsLossAndGrad, cardsLoss}
 
 pub prefixes-same-loss :
-    (w : List Float) (x : Prefixes) (gw records : ℕ) → prefixGradRefusal w x gw (roomDef records) ≡ 0 → batchLossAndGrad w x gw records ≡ batchLoss w x
+    (w : List Float) (x : Prefixes) (gw room : ℕ) → prefixGradRefusal w x gw room ≡ 0 → batchLossAndGrad w x gw room ≡ batchLoss w x
 unfolding prefixGradRefusal prefixLossRefusal batchLossAndGrad batchLoss
-prefixes-same-loss w x gw records z = rw (z, alone-accepted w _ _ _ _ z)
+prefixes-same-loss w x gw room z = rw (z, alone-accepted w _ _ _ _ z)
 
 pub cards-same-loss :
-    (w : List Float) (x : Cards) (gw records step-grads : ℕ) → cardGradRefusal w x gw (roomDef records) step-grads ≡ 0 →
-    cardsLossAndGrad w x gw records step-grads ≡ cardsLoss w x
+    (w : List Float) (x : Cards) (gw room step-grads : ℕ) → cardGradRefusal w x gw room step-grads ≡ 0 →
+    cardsLossAndGrad w x gw room step-grads ≡ cardsLoss w x
 unfolding cardGradRefusal cardLossRefusal cardsLossAndGrad cardsLoss
-cards-same-loss w x gw records step-grads z = rw (z, alone-accepted w _ _ _ _ z)
+cards-same-loss w x gw room step-grads z = rw (z, alone-accepted w _ _ _ _ z)

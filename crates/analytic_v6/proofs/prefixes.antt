@@ -1,2 +1,4 @@
 pub mod Columns
 pub mod Entry
+pub mod Over
+pub mod Whole

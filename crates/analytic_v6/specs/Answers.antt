@@ -13,5 +13,5 @@ unfoldable pub answer : (refusal : ℕ) (loss : Float) → Loss
 answer refusal loss = record { refusal = refusal; loss = cond (eqb refusal 0) loss zero64 }
 
 -- 'and writes nothing'; an accepted call goes through its columns in their order
-abbrev pub leaves : (refusal : ℕ) (change : ℕ → List Float → List Float) (columns : ℕ) (xs : List Float) → List Float
+abbrev pub leaves : {E : Type 0} (refusal : ℕ) (change : ℕ → List E → List E) (columns : ℕ) (xs : List E) → List E
 leaves refusal change columns xs = cond (eqb refusal 0) (through change columns xs) xs

@@ -10,10 +10,12 @@ use lib.ListN.{length, set}
 use Rattle.domain.specs.Doubles.{zero64}
 use Rattle.forward.specs.Params.{paramsDef}
 use Rattle.forward.specs.declared.parameters.RuntimeParams.{RuntimeParams}
+use Rattle.forward.specs.declared.state.StepRecord.{StepRecord}
 use Rattle.checks.specs.Batch.{Cards, lengthAt, history, labelAt, weightAt}
 use Rattle.checks.specs.Columns.{total}
 use Rattle.checks.specs.Refusals.{cardLossRefusal, cardGradRefusal}
 use Rattle.columns.specs.Records.{roomDef}
+use Rattle.columns.specs.StepRecords.{stepsDef}
 use Rattle.columns.specs.BackwardPass.{startGrad, backDef}
 use Rattle.columns.specs.LastReview.{lastLoss, lastGrad, lastSlots}
 use Rattle.columns.specs.ForwardPass.{stateAt, recordAt, storedDef, scoreAt, lossAt, gradsDef}
@@ -57,6 +59,9 @@ module _ (p : RuntimeParams) (x : Cards) (column : ℕ) where
       (startGrad (lastGrad p lastNumber lastStability lastDay (labelAt x column lastRow) (weightAt x column lastRow)))
       (lastSlots p lastNumber lastStability lastDay (labelAt x column lastRow) (weightAt x column lastRow) gw))
 
+  unfoldable pub cardSteps : (records : List StepRecord) → List StepRecord
+  cardSteps records = stepsDef p (history (x .table) column) lastRow records
+
   unfoldable pub cardRecords : (records : List Float) → List Float
   cardRecords records = storedDef p (history (x .table) column) lastRow records
 
@@ -70,29 +75,41 @@ module _ (p : RuntimeParams) (x : Cards) (column : ℕ) where
 abbrev pub cardsTotal : (w : List Float) (x : Cards) → Float
 cardsTotal w x = total (cardLoss (paramsDef w) x) (x .table .columns)
 
--- a lent slice stands for its length where only that counts: ten singles make a record
-unfoldable pub cardsLossAndGrad : (w : List Float) (x : Cards) (gw records step-grads : ℕ) → Loss
-cardsLossAndGrad w x gw records step-grads = answer (cardGradRefusal w x gw (roomDef records) step-grads) (cardsTotal w x)
+-- a lent slice stands for its length where only that counts, and records for the rows that they have room for
+unfoldable pub cardsLossAndGrad : (w : List Float) (x : Cards) (gw room step-grads : ℕ) → Loss
+cardsLossAndGrad w x gw room step-grads = answer (cardGradRefusal w x gw room step-grads) (cardsTotal w x)
 
 -- the slots are added to
-unfoldable pub cardsSlots : (w : List Float) (x : Cards) (gw : List Float) (records step-grads : ℕ) → List Float
-cardsSlots w x gw records step-grads =
-    leaves (cardGradRefusal w x (length gw) (roomDef records) step-grads) (cardSlots (paramsDef w) x) (x .table .columns) gw
+unfoldable pub cardsSlots : (w : List Float) (x : Cards) (gw : List Float) (room step-grads : ℕ) → List Float
+cardsSlots w x gw room step-grads =
+    leaves (cardGradRefusal w x (length gw) room step-grads) (cardSlots (paramsDef w) x) (x .table .columns) gw
 
+unfoldable pub cardsSteps : (w : List Float) (x : Cards) (gw : ℕ) (records : List StepRecord) (step-grads : ℕ) → List StepRecord
+cardsSteps w x gw records step-grads =
+    leaves (cardGradRefusal w x gw (length records) step-grads) (cardSteps (paramsDef w) x) (x .table .columns) records
+
+-- ten singles make a record
 unfoldable pub cardsRecords : (w : List Float) (x : Cards) (gw : ℕ) (records : List Float) (step-grads : ℕ) → List Float
 cardsRecords w x gw records step-grads =
     leaves (cardGradRefusal w x gw (roomDef (length records)) step-grads) (cardRecords (paramsDef w) x) (x .table .columns) records
 
-unfoldable pub cardsGrads : (w : List Float) (x : Cards) (gw records : ℕ) (step-grads : List Float) → List Float
-cardsGrads w x gw records step-grads =
-    leaves (cardGradRefusal w x gw (roomDef records) (length step-grads)) (cardGrads (paramsDef w) x) (x .table .columns) step-grads
+unfoldable pub cardsGrads : (w : List Float) (x : Cards) (gw room : ℕ) (step-grads : List Float) → List Float
+cardsGrads w x gw room step-grads =
+    leaves (cardGradRefusal w x gw room (length step-grads)) (cardGrads (paramsDef w) x) (x .table .columns) step-grads
 
 -- what card_loss_and_grad leaves in what it was lent
-abbrev pub CardsLeave : (w : List Float) (x : Cards) (gw records step-grads gw-exit records-exit step-grads-exit : List Float) → Type 0
+abbrev pub CardsLeave : (w : List Float) (x : Cards) (gw : List Float) (records : List StepRecord) (step-grads gw-exit : List Float) (records-exit : List StepRecord) (step-grads-exit : List Float) → Type 0
 CardsLeave w x gw records step-grads gw-exit records-exit step-grads-exit =
     (gw-exit ≡ cardsSlots w x gw (length records) (length step-grads)) ×
-    (records-exit ≡ cardsRecords w x (length gw) records (length step-grads)) ×
+    (records-exit ≡ cardsSteps w x (length gw) records (length step-grads)) ×
     (step-grads-exit ≡ cardsGrads w x (length gw) (length records) step-grads)
+
+-- and card_loss_and_grad_columns
+abbrev pub CardsColumnsLeave : (w : List Float) (x : Cards) (gw records step-grads gw-exit records-exit step-grads-exit : List Float) → Type 0
+CardsColumnsLeave w x gw records step-grads gw-exit records-exit step-grads-exit =
+    (gw-exit ≡ cardsSlots w x gw (roomDef (length records)) (length step-grads)) ×
+    (records-exit ≡ cardsRecords w x (length gw) records (length step-grads)) ×
+    (step-grads-exit ≡ cardsGrads w x (length gw) (roomDef (length records)) step-grads)
 
 unfoldable pub cardsLoss : (w : List Float) (x : Cards) → Loss
 cardsLoss w x = answer (cardLossRefusal w x) (cardsTotal w x)

@@ -2,3 +2,4 @@ pub mod Answers
 pub mod Cards
 pub mod Prefixes
 pub mod Step
+pub mod inner

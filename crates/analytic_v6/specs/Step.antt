@@ -13,11 +13,10 @@ use Rattle.checks.specs.Reads.{ratingGood}
 use Rattle.domain.specs.Weights.{weightsRefusal}
 use Rattle.forward.specs.Params.{paramsDef}
 use Rattle.forward.specs.Step.{noState, isFirst, stepDef}
-use Rattle.forward.specs.declared.state.Branch.the-variants.{Padding}
 use Rattle.forward.specs.declared.state.State.{State}
-use Rattle.forward.specs.declared.state.StepRecord.{StepRecord}
 use Rattle.forward.specs.declared.state.Stepped.{Stepped}
 use Rattle.backward.specs.Step.{stepGrad, stepMoved}
+use Rattle.columns.specs.StepRecords.{noStep}
 use Rattle.analytic_v6.specs.declared.step.TrainingStep.{TrainingStep}
 use Rattle.analytic_v6.specs.declared.step.TrainingReverse.{TrainingReverse}
 
@@ -36,29 +35,15 @@ stepRefusal w slots q day rating row =
     5)
     (weightsRefusal w)
 
-unfoldable pub blank : StepRecord
-unfolding noState
-blank =
-    record {
-      state = noState;
-      last = noState;
-      day = zero32;
-      rating = zero32;
-      retrievability = zero32;
-      «pre_s» = zero32;
-      «pre_d» = zero32;
-      branch = Padding;
-    }
-
 abbrev pub stepped : List Float → (q : State) (day rating : Float) (row : ℕ) → Stepped
 stepped w q day rating row = stepDef (paramsDef w) q day rating row
 
 unfoldable pub trainingStep : List Float → (q : State) (day rating : Float) (row : ℕ) → TrainingStep
-unfolding noState blank
+unfolding noState noStep
 trainingStep w q day rating row =
     let n = stepRefusal w true q day rating row in
     let t = stepped w q day rating row in
-    cond (eqb n 0) (record { refusal = 0; state = t .state; step = t .step }) (record { refusal = n; state = noState; step = blank })
+    cond (eqb n 0) (record { refusal = 0; state = t .state; step = t .step }) (record { refusal = n; state = noState; step = noStep })
 
 abbrev pub reverseRefusal : List Float → (q : State) (day rating : Float) (row : ℕ) (slots : ℕ) → ℕ
 reverseRefusal w q day rating row slots = stepRefusal w (eqb slots 21) q day rating row

@@ -5,4 +5,6 @@ pub mod answers;
 pub mod cards;
 // Each column is a history, and only the review after it is scored.
 pub mod prefixes;
+// What the columns of a batch share.
+mod rows;
 pub mod step;

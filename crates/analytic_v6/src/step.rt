@@ -2,16 +2,16 @@
 ghost use mathlib.Core.Path.{_≡_};
 ghost use mathlib.Core.Bool.{true};
 ghost use lib.ListN.{length};
-ghost use Rattle.analytic_v6.specs.Step.{isUnread, finiteState, stepRefusal, blank, trainingStep, trainingReverse, reverseSlots};
+ghost use Rattle.analytic_v6.specs.Step.{isUnread, finiteState, stepRefusal, trainingStep, trainingReverse, reverseSlots};
 use backward::step::StateGrad;
 use backward::step::step_backward;
 use checks::reads::is_rating;
+use columns::step_records::no_step;
 use domain::floats::is_finite;
 use domain::limits::is_day;
 use domain::weights::copy_weights;
 use domain::weights::weights_refusal;
 use forward::parameters::runtime_params;
-use forward::state::Branch;
 use forward::state::State;
 use forward::state::StepRecord;
 use forward::step::is_first;
@@ -70,23 +70,6 @@ fn step_refusal(w: &[f32], slots: bool, q: State, day: f32, rating: f32, row: us
     0
 }
 
-fn blank_record() -> StepRecord
-    ensures { λ r. ⌜ r ≡ blank ⌝ }
-{
-    let zero = State { s: 0.0, d: 0.0 };
-    let branch = Branch::Padding;
-    StepRecord {
-        state: zero,
-        last: zero,
-        day: 0.0,
-        rating: 0.0,
-        retrievability: 0.0,
-        pre_s: 0.0,
-        pre_d: 0.0,
-        branch,
-    }
-}
-
 // A review of the state `q` on `day` days after the last one, at the `row`-th row of its history.
 pub fn training_step(w: &[f32], q: State, day: f32, rating: f32, row: usize) -> TrainingStep
     ensures { λ r. ⌜ r ≡ trainingStep (now (w .entry)) q day rating row ⌝ }
@@ -94,7 +77,7 @@ pub fn training_step(w: &[f32], q: State, day: f32, rating: f32, row: usize) -> 
     let n = step_refusal(w, true, q, day, rating, row);
     if n != 0 {
         let state = State { s: 0.0, d: 0.0 };
-        let step = blank_record();
+        let step = no_step();
         return TrainingStep {
             refusal: n,
             state,

@@ -9,11 +9,10 @@ use lib.Dec.{leb}
 use lib.ListN.{length}
 use Rattle.checks.specs.Tables.{cutAt}
 use Rattle.checks.specs.Sizes.{most, longestDef}
-use Rattle.columns.specs.Records.{roomDef}
 use Rattle.batch.specs.Words.{wordAt}
 use Rattle.batch.specs.Header.{wellFormed, sectionsDef, sectionsOf, placed}
 use Rattle.batch.proofs.layout.Sizes.{left-of, rows-small}
-use Rattle.batch.specs.File.{RECORDS, STEPS}
+use Rattle.batch.specs.File.{ROWS}
 
 either-of : (a b n : ℕ) (t : Bool) → a ≤ n → b ≤ n → cond t b a ≤ n
 either-of a b n true p q = q
@@ -35,13 +34,9 @@ unfolding longestDef most
 longest-rows lengths rows zero = zero-le
 longest-rows lengths rows (suc c) = either-of _ _ rows (leb (longestDef lengths rows c) (cutAt lengths rows c)) (longest-rows lengths rows c) (cut-rows lengths rows c)
 
-rows-of : (file : List ℕ) → wellFormed file ≡ true → sectionsOf file .rows ≤ 512
+rows-of : (file : List ℕ) → wellFormed file ≡ true → sectionsOf file .rows ≤ ROWS
 unfolding wellFormed sectionsDef
 rows-of file w = rows-small (wordAt file 0) (wordAt file 1) (length file) (left-of _ (placed file (sectionsOf file)) w)
 
-pub room-for :
-    (file : List ℕ) → wellFormed file ≡ true → (lengths : List ℕ) (columns : ℕ) →
-    (longestDef lengths (sectionsOf file .rows) columns ≤ roomDef RECORDS) × (longestDef lengths (sectionsOf file .rows) columns ≤ STEPS)
-unfolding roomDef
-room-for file w lengths columns =
-    let h = le-trans (longest-rows lengths (sectionsOf file .rows) columns) (rows-of file w) in (h, h)
+pub room-for : (file : List ℕ) → wellFormed file ≡ true → (lengths : List ℕ) (columns : ℕ) → longestDef lengths (sectionsOf file .rows) columns ≤ ROWS
+room-for file w lengths columns = le-trans (longest-rows lengths (sectionsOf file .rows) columns) (rows-of file w)

@@ -25,12 +25,9 @@ inOrder h n =
     (h .weights ≤ h .days) × (h .days ≤ h .ratings) × (h .ratings ≤ h .lengths) × (h .lengths ≤ h .targets) ×
     (h .targets ≤ h .labels) × (h .labels ≤ h .reviews) × (h .reviews ≤ h .end) × (h .end ≤ n)
 
--- the call's own records and step gradients have room for 512 rows, the most that a file has
-abbrev pub RECORDS : ℕ
-RECORDS = 5120
-
-abbrev pub STEPS : ℕ
-STEPS = 512
+-- the call's own records and step gradients are one for each of 512 rows, the most that a file has
+abbrev pub ROWS : ℕ
+ROWS = 512
 
 -- the call of a header: cells are the file's words as singles, lens the lengths
 module _ (h : Header) (cells : List Float) (lens : List ℕ) where
@@ -61,16 +58,16 @@ module _ (h : Header) (cells : List Float) (lens : List ℕ) where
       (part (h .reviews) (h .end) cells)
 
   unfoldable pub prefixLossIn : (gw : ℕ) → Loss
-  prefixLossIn gw = batchLossAndGrad weightsIn prefixesIn gw RECORDS
+  prefixLossIn gw = batchLossAndGrad weightsIn prefixesIn gw ROWS
 
   unfoldable pub prefixSlotsIn : (gw : List Float) → List Float
-  prefixSlotsIn gw = batchSlots weightsIn prefixesIn gw RECORDS
+  prefixSlotsIn gw = batchSlots weightsIn prefixesIn gw ROWS
 
   unfoldable pub cardLossIn : (gw : ℕ) → Loss
-  cardLossIn gw = cardsLossAndGrad weightsIn cardsIn gw RECORDS STEPS
+  cardLossIn gw = cardsLossAndGrad weightsIn cardsIn gw ROWS ROWS
 
   unfoldable pub cardSlotsIn : (gw : List Float) → List Float
-  cardSlotsIn gw = cardsSlots weightsIn cardsIn gw RECORDS STEPS
+  cardSlotsIn gw = cardsSlots weightsIn cardsIn gw ROWS ROWS
 
   -- 'kind (1 prefix, 2 card)'
   unfoldable pub callLoss : (gw : ℕ) → Loss

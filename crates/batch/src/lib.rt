@@ -1,33 +1,28 @@
 // A batch file, run as the one call that it holds.
 pub mod header;
 mod layout;
+mod steps;
 mod words;
 
 ghost use mathlib.Core.Path.{_≡_};
 ghost use Prim.Native.Nat.{_≤_};
 ghost use lib.ListN.{length};
 ghost use Rattle.batch.specs.Words.{words, singles};
-ghost use Rattle.batch.specs.File.{RECORDS, STEPS, inOrder, prefixLossIn, prefixSlotsIn};
+ghost use Rattle.batch.specs.File.{inOrder, prefixLossIn, prefixSlotsIn};
 ghost use Rattle.batch.specs.File.{cardLossIn, cardSlotsIn, callLoss, callSlots, fileLoss, fileSlots};
 use crate::header::Header;
 use crate::layout::header_of;
+use crate::steps::cards_over_steps;
+use crate::steps::prefixes_over_steps;
 use crate::words::fill_singles;
 use crate::words::fill_words;
 use analytic_v6::answers::Loss;
-use analytic_v6::cards::grad::card_loss_and_grad;
-use analytic_v6::prefixes::grad::batch_loss_and_grad;
 
 // Words in the longest file.
 const WORDS: usize = 16384;
 
-// Ten singles for each of 512 rows, the most that a file has.
-const RECORDS: usize = 5120;
-
-// A step gradient for each of them.
-const STEPS: usize = 512;
-
-fn run_prefixes(h: Header, cells: &[f32], lens: &[u32], gw: &mut [f64], records: &mut [f32]) -> Loss
-    requires { ⌜ (inOrder h (length (now cells))) × (length (now records) ≡ RECORDS) ⌝ }
+fn run_prefixes(h: Header, cells: &[f32], lens: &[u32], gw: &mut [f64]) -> Loss
+    requires { ⌜ inOrder h (length (now cells)) ⌝ }
     ensures { λ r. ⌜
         (r ≡ prefixLossIn h (now (cells .entry)) (now (lens .entry)) (length (now (gw .entry)))) ×
         (now (gw .exit) ≡ prefixSlotsIn h (now (cells .entry)) (now (lens .entry)) (now (gw .entry))) ⌝ }
@@ -40,7 +35,7 @@ fn run_prefixes(h: Header, cells: &[f32], lens: &[u32], gw: &mut [f64], records:
     let labels = h.labels;
     let reviews = h.reviews;
     let end = h.end;
-    batch_loss_and_grad(
+    prefixes_over_steps(
         &cells[weights..days],
         &cells[days..ratings],
         &cells[ratings..lengths],
@@ -51,19 +46,11 @@ fn run_prefixes(h: Header, cells: &[f32], lens: &[u32], gw: &mut [f64], records:
         &cells[labels..reviews],
         &cells[reviews..end],
         gw,
-        records,
     )
 }
 
-fn run_cards(
-    h: Header,
-    cells: &[f32],
-    lens: &[u32],
-    gw: &mut [f64],
-    records: &mut [f32],
-    step_grads: &mut [f64],
-) -> Loss
-    requires { ⌜ (inOrder h (length (now cells))) × (length (now records) ≡ RECORDS) × (length (now «step_grads») ≡ STEPS) ⌝ }
+fn run_cards(h: Header, cells: &[f32], lens: &[u32], gw: &mut [f64]) -> Loss
+    requires { ⌜ inOrder h (length (now cells)) ⌝ }
     ensures { λ r. ⌜
         (r ≡ cardLossIn h (now (cells .entry)) (now (lens .entry)) (length (now (gw .entry)))) ×
         (now (gw .exit) ≡ cardSlotsIn h (now (cells .entry)) (now (lens .entry)) (now (gw .entry))) ⌝ }
@@ -75,7 +62,7 @@ fn run_cards(
     let labels = h.labels;
     let reviews = h.reviews;
     let end = h.end;
-    card_loss_and_grad(
+    cards_over_steps(
         &cells[weights..days],
         &cells[days..ratings],
         &cells[ratings..lengths],
@@ -85,22 +72,12 @@ fn run_cards(
         &cells[labels..reviews],
         &cells[reviews..end],
         gw,
-        records,
-        step_grads,
     )
 }
 
 // `cells` and `lens` are lent in the size that the file's words and lengths take.
-fn run_call(
-    file: &[u8],
-    h: Header,
-    cells: &mut [f32],
-    lens: &mut [u32],
-    gw: &mut [f64],
-    records: &mut [f32],
-    step_grads: &mut [f64],
-) -> Loss
-    requires { ⌜ (inOrder h (length (now cells))) × (length (now records) ≡ RECORDS) × (length (now «step_grads») ≡ STEPS) ⌝ }
+fn run_call(file: &[u8], h: Header, cells: &mut [f32], lens: &mut [u32], gw: &mut [f64]) -> Loss
+    requires { ⌜ inOrder h (length (now cells)) ⌝ }
     ensures { λ r. ⌜
         (r ≡ callLoss h (singles (now (file .entry)) 0 (length (now (cells .entry))))
         (words (now (file .entry)) (h .lengths) (length (now (lens .entry)))) (length (now (gw .entry)))) ×
@@ -110,26 +87,16 @@ fn run_call(
     fill_singles(file, 0, cells);
     fill_words(file, h.lengths, lens);
     if h.kind == 1 {
-        return run_prefixes(h, cells, lens, gw, records);
+        return run_prefixes(h, cells, lens, gw);
     }
-    run_cards(h, cells, lens, gw, records, step_grads)
+    run_cards(h, cells, lens, gw)
 }
 
-fn run_sections(
-    file: &[u8],
-    h: Header,
-    cells: &mut [f32],
-    lens: &mut [u32],
-    gw: &mut [f64],
-    records: &mut [f32],
-    step_grads: &mut [f64],
-) -> Loss
+fn run_sections(file: &[u8], h: Header, cells: &mut [f32], lens: &mut [u32], gw: &mut [f64]) -> Loss
     requires { ⌜
         (inOrder h (h .end)) ×
         (h .end ≤ length (now cells)) ×
-        (h .columns ≤ length (now lens)) ×
-        (length (now records) ≡ RECORDS) ×
-        (length (now «step_grads») ≡ STEPS) ⌝ }
+        (h .columns ≤ length (now lens)) ⌝ }
     ensures { λ r. ⌜
         (r ≡ callLoss h (singles (now (file .entry)) 0 (h .end)) (words (now (file .entry)) (h .lengths) (h .columns))
         (length (now (gw .entry)))) ×
@@ -138,15 +105,7 @@ fn run_sections(
 {
     let n = h.end;
     let m = h.columns as usize;
-    run_call(
-        file,
-        h,
-        &mut cells[0..n],
-        &mut lens[0..m],
-        gw,
-        records,
-        step_grads,
-    )
+    run_call(file, h, &mut cells[0..n], &mut lens[0..m], gw)
 }
 
 // The loss of the call that the file holds, and its gradient, added to the 21 slots of gw. Refusal 11 where the file is
@@ -165,15 +124,5 @@ pub fn run_file(file: &[u8], gw: &mut [f64]) -> Loss
     }
     let mut cells = [0.0f32; WORDS];
     let mut lens = [0u32; WORDS];
-    let mut records = [0.0f32; RECORDS];
-    let mut step_grads = [0.0f64; STEPS];
-    run_sections(
-        file,
-        h,
-        &mut cells,
-        &mut lens,
-        gw,
-        &mut records,
-        &mut step_grads,
-    )
+    run_sections(file, h, &mut cells, &mut lens, gw)
 }

@@ -10,6 +10,6 @@ total part zero = zero64
 total part (suc column) = total part column +ᵈ part column
 
 -- what each column leaves in a lent slice, in column order
-unfoldable pub through : (change : ℕ → List Float → List Float) (columns : ℕ) (xs : List Float) → List Float
+unfoldable pub through : {E : Type 0} (change : ℕ → List E → List E) (columns : ℕ) (xs : List E) → List E
 through change zero xs = xs
 through change (suc column) xs = change column (through change column xs)

@@ -6,8 +6,8 @@ ghost use Rattle.domain.specs.Weights.{_!_};
 ghost use Rattle.checks.specs.Align.{isEnd, alignOf, counts, weighed, firstOf, targetWeight};
 ghost use Rattle.checks.specs.Batch.{view};
 use crate::reads::is_nonzero;
-use crate::tables::cell_of;
 use crate::tables::read;
+use crate::view::cell_at;
 use soft::flags::either;
 
 // Start: from row 0 on, padding behind them, as the Rust has it. End: up to the last row, padding in front.
@@ -44,7 +44,7 @@ pub fn first_review(align: Align, r_hist: &[f32], batch: u32, column: u32, n: u3
     }
     let mut i = 0;
     while i < n {
-        let rating = read(r_hist, cell_of(i, batch, column));
+        let rating = cell_at(r_hist, batch, column, i);
         if is_nonzero(rating) {
             return i;
         }

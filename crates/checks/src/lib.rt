@@ -7,3 +7,4 @@ pub mod reads;
 pub mod refusals;
 mod sizes;
 pub mod tables;
+pub mod view;

@@ -3,7 +3,7 @@ use Prim.Native.Nat.{ℕ, zero, suc, _≤_, _<_}
 use mathlib.Core.Bool.{Bool, true, false}
 use mathlib.Core.List.{List}
 use mathlib.Core.Path.{_≡_, refl, sym, _∙_, subst}
-use native.Mathlib.Nat.{le-refl, le-of-lt, lt-of-lt-of-le, ne-of-lt, not-suc-le-zero}
+use native.Mathlib.Nat.{le-refl, le-of-lt, lt-of-lt-of-le, ne-of-gt, ne-of-lt, not-suc-le-zero}
 use native.Mathlib.Omega.{arith}
 use borrow.Author.Tests.{leb-true, leb-false}
 use lib.Dec.{leb}
@@ -14,9 +14,10 @@ use Rattle.domain.specs.Doubles.{zero64}
 use Rattle.checks.specs.Batch.{History}
 use Rattle.forward.specs.declared.parameters.RuntimeParams.{RuntimeParams}
 use Rattle.forward.specs.declared.state.StepRecord.{StepRecord}
-use Rattle.columns.specs.Records.{roomDef, storeDef, loadDef}
+use Rattle.domain.specs.Weights.{_!_}
+use Rattle.columns.specs.Records.{Field, columnOf, numberOf, place, roomDef, storeDef, loadDef}
 use Rattle.columns.proofs.records.ReadBack.{step-read}
-use Rattle.columns.proofs.records.Stored.{stored-length, stored-read, others-kept}
+use Rattle.columns.proofs.records.Stored.{stored-length, stored-read, others-kept, kept, field-read}
 use Rattle.backward.specs.declared.step.StateGrad.{StateGrad}
 use Rattle.columns.specs.BackwardPass.{backDef}
 use Rattle.columns.specs.ForwardPass.{stepAt, recordAt, storedDef, scoreAt, gradsDef}
@@ -50,6 +51,40 @@ module _ (p : RuntimeParams) (hist : History) where
   unfolding storedDef
   path-read zero i xs l h = absurd (not-suc-le-zero h)
   path-read (suc n) i xs l h = path-turn n i xs l h (path-read n i xs (le-of-lt l)) (leb n i) refl
+
+  -- the same by the field: each number of a stepped row, and that the rows behind keep theirs
+  record-field : (row : ℕ) (xs : List Float) → row < roomDef (length xs) → (f : Field) → storeDef row (recordAt p hist row) xs ! place (length xs) (columnOf f) row ≡ numberOf f (recordAt p hist row)
+  record-field row xs l f = field-read row (recordAt p hist row) xs l f
+
+  pub path-kept :
+      (n i : ℕ) (xs : List Float) → n ≤ i → i < roomDef (length xs) → (k : ℕ) → storedDef p hist n xs ! place (length xs) k i ≡ xs ! place (length xs) k i
+  unfolding storedDef
+  path-kept zero i xs l h k = refl
+  path-kept (suc n) i xs l h k =
+      subst (λ (m : ℕ). storeDef n (recordAt p hist n) (storedDef p hist n xs) ! place m k i ≡ storedDef p hist n xs ! place m k i) (path-length n xs)
+      (kept n (recordAt p hist n) (storedDef p hist n xs) (room-kept n n xs (lt-of-lt-of-le l (le-of-lt h))) i (room-kept n i xs h) (ne-of-gt l) k) ∙
+      path-kept n i xs (le-of-lt l) h k
+
+  field-turn :
+      (n i : ℕ) (xs : List Float) → n < roomDef (length xs) → i < suc n → (f : Field) →
+      (i < n → storedDef p hist n xs ! place (length xs) (columnOf f) i ≡ numberOf f (recordAt p hist i)) → (b : Bool) → b ≡ leb n i →
+      storeDef n (recordAt p hist n) (storedDef p hist n xs) ! place (length xs) (columnOf f) i ≡ numberOf f (recordAt p hist i)
+  field-turn n i xs l h f before true e =
+      let same : n ≡ i = omega (arith, leb-true n i (sym e), h) in
+      subst (λ (k : ℕ). storeDef n (recordAt p hist n) (storedDef p hist n xs) ! place (length xs) (columnOf f) k ≡ numberOf f (recordAt p hist k)) same
+      (subst (λ (m : ℕ). storeDef n (recordAt p hist n) (storedDef p hist n xs) ! place m (columnOf f) n ≡ numberOf f (recordAt p hist n)) (path-length n xs)
+      (record-field n (storedDef p hist n xs) (room-kept n n xs l) f))
+  field-turn n i xs l h f before false e =
+      let less = leb-false n i (sym e) in
+      subst (λ (m : ℕ). storeDef n (recordAt p hist n) (storedDef p hist n xs) ! place m (columnOf f) i ≡ storedDef p hist n xs ! place m (columnOf f) i) (path-length n xs)
+      (kept n (recordAt p hist n) (storedDef p hist n xs) (room-kept n n xs l) i (room-kept n i xs (lt-of-lt-of-le less (le-of-lt l))) (ne-of-lt less) (columnOf f)) ∙
+      before less
+
+  pub path-field :
+      (n i : ℕ) (xs : List Float) → n ≤ roomDef (length xs) → i < n → (f : Field) → storedDef p hist n xs ! place (length xs) (columnOf f) i ≡ numberOf f (recordAt p hist i)
+  unfolding storedDef
+  path-field zero i xs l h f = absurd (not-suc-le-zero h)
+  path-field (suc n) i xs l h f = field-turn n i xs l h f (λ k. path-field n i xs (le-of-lt l) k f) (leb n i) refl
 
   module _ (label weight : ℕ → Float) where
     pub grads-length : (n : ℕ) (xs : List Float) → length (gradsDef p hist label weight n xs) ≡ length xs

@@ -4,3 +4,4 @@ pub mod LastReview
 pub mod Records
 pub mod Scores
 pub mod StepRecords
+pub mod inner

@@ -58,9 +58,50 @@ branchOf number rating a b =
     (cond (eq number four) (Lapse a b false)
     (cond (eq number five) (Lapse a b true) Success)))))
 
--- columns 0 to 6; the clamped state is worked out again when a record is read
+-- A record's ten numbers by their names, in the order of the columns (include/fsrs6.h has the same names). The clamped state is not among them: it is worked out again
+-- when a record is read
+pub data Field : Type 0 where
+  STABILITY : Field
+  DIFFICULTY : Field
+  DAY : Field
+  RATING : Field
+  RETRIEVABILITY : Field
+  PRE-STABILITY : Field
+  PRE-DIFFICULTY : Field
+  BRANCH : Field
+  BRANCH-RAW : Field
+  BRANCH-OTHER : Field
+
+-- which column a name is
+abbrev pub columnOf : Field → ℕ
+columnOf STABILITY = 0
+columnOf DIFFICULTY = 1
+columnOf DAY = 2
+columnOf RATING = 3
+columnOf RETRIEVABILITY = 4
+columnOf PRE-STABILITY = 5
+columnOf PRE-DIFFICULTY = 6
+columnOf BRANCH = 7
+columnOf BRANCH-RAW = 8
+columnOf BRANCH-OTHER = 9
+
+-- and which number of a record
+abbrev pub numberOf : Field → StepRecord → Float
+numberOf STABILITY c = c .state .s
+numberOf DIFFICULTY c = c .state .d
+numberOf DAY c = c .day
+numberOf RATING c = c .rating
+numberOf RETRIEVABILITY c = c .retrievability
+numberOf PRE-STABILITY c = c .«pre_s»
+numberOf PRE-DIFFICULTY c = c .«pre_d»
+numberOf BRANCH c = branchCells (c .branch) .number
+numberOf BRANCH-RAW c = branchCells (c .branch) .a
+numberOf BRANCH-OTHER c = branchCells (c .branch) .b
+
+-- columns 0 to 6
 unfoldable pub stepValues : StepRecord → List Float
-stepValues c = c .state .s ∷ c .state .d ∷ c .day ∷ c .rating ∷ c .retrievability ∷ c .«pre_s» ∷ c .«pre_d» ∷ []
+stepValues c =
+    numberOf STABILITY c ∷ numberOf DIFFICULTY c ∷ numberOf DAY c ∷ numberOf RATING c ∷ numberOf RETRIEVABILITY c ∷ numberOf PRE-STABILITY c ∷ numberOf PRE-DIFFICULTY c ∷ []
 
 -- columns 7 to 9
 unfoldable pub branchValues : Branch → List Float

@@ -13,8 +13,8 @@ use checks::align::Align;
 use checks::align::counts_at;
 use checks::align::row_from;
 use checks::tables::cell_of;
-use checks::tables::read;
 use checks::tables::write_f64;
+use checks::view::cell_at;
 use forward::parameters::RuntimeParams;
 use forward::state::State;
 use forward::step::step_forward;
@@ -49,9 +49,8 @@ pub fn prefix_forward(
     let mut q = State { s: 0.0, d: 0.0 };
     let mut i = 0;
     while i < n {
-        let k = cell_of(i, batch, column);
-        let day = read(t_hist, k);
-        let rating = read(r_hist, k);
+        let day = cell_at(t_hist, batch, column, i);
+        let rating = cell_at(r_hist, batch, column, i);
         let number = row_from(i, first);
         let next = step_forward(p, q, day, rating, number as usize);
         q = carried(i, first, next.state);
@@ -78,9 +77,8 @@ pub fn prefix_forward_recorded(
     let mut q = State { s: 0.0, d: 0.0 };
     let mut i = 0;
     while i < n {
-        let k = cell_of(i, batch, column);
-        let day = read(t_hist, k);
-        let rating = read(r_hist, k);
+        let day = cell_at(t_hist, batch, column, i);
+        let rating = cell_at(r_hist, batch, column, i);
         let number = row_from(i, first);
         let next = step_forward(p, q, day, rating, number as usize);
         let step = next.step;
@@ -130,15 +128,15 @@ pub fn card_forward(
     let mut loss = 0.0;
     let mut i = 0;
     while i < n {
-        let k = cell_of(i, batch, column);
-        let day = read(t_hist, k);
-        let rating = read(r_hist, k);
+        let day = cell_at(t_hist, batch, column, i);
+        let rating = cell_at(r_hist, batch, column, i);
         let number = row_from(i, first);
         let next = step_forward(p, q, day, rating, number as usize);
         let step = next.step;
+        let k = cell_of(i, batch, column);
         let counts = counts_at(align, r_hist, k);
-        let label = read(labels, k);
-        let weight = read(weights, k);
+        let label = cell_at(labels, batch, column, i);
+        let weight = cell_at(weights, batch, column, i);
         let score = row_score(counts, number, step.retrievability, label, weight);
         loss = loss + score.loss;
         q = carried(i, first, next.state);
@@ -173,15 +171,15 @@ pub fn card_forward_recorded(
     let mut loss = 0.0;
     let mut i = 0;
     while i < n {
-        let k = cell_of(i, batch, column);
-        let day = read(t_hist, k);
-        let rating = read(r_hist, k);
+        let day = cell_at(t_hist, batch, column, i);
+        let rating = cell_at(r_hist, batch, column, i);
         let number = row_from(i, first);
         let next = step_forward(p, q, day, rating, number as usize);
         let step = next.step;
+        let k = cell_of(i, batch, column);
         let counts = counts_at(align, r_hist, k);
-        let label = read(labels, k);
-        let weight = read(weights, k);
+        let label = cell_at(labels, batch, column, i);
+        let weight = cell_at(weights, batch, column, i);
         let score = row_score(counts, number, step.retrievability, label, weight);
         let g_r = score.g_r;
         store_step(records, i, step);

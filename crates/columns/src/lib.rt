@@ -4,4 +4,4 @@ pub mod forward_pass;
 pub mod last_review;
 pub mod records;
 pub mod scores;
-mod step_records;
+pub mod step_records;

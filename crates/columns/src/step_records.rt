@@ -7,7 +7,8 @@ ghost use Rattle.backward.specs.Step.{stepGrad, stepMoved};
 ghost use Rattle.checks.specs.Batch.{view, historyOf, weightsOf};
 ghost use Rattle.columns.specs.BackwardPass.{startGrad, backDef};
 ghost use Rattle.columns.specs.ForwardPass.{stateAt, runAt, gradsDef};
-ghost use Rattle.columns.specs.StepRecords.{noStep, nextDef, stepsDef, scoreFrom, cardNext};
+ghost use Rattle.columns.specs.StepRecords.{noStep, stepsDef};
+ghost use Rattle.columns.specs.inner.Next.{nextDef, scoreFrom, cardNext};
 use crate::forward_pass::Run;
 use crate::forward_pass::carried;
 use crate::forward_pass::row_score;
@@ -17,9 +18,9 @@ use checks::align::Align;
 use checks::align::row_from;
 use checks::align::weight_at;
 use checks::tables::cell_of;
-use checks::tables::read;
 use checks::tables::read_f64;
 use checks::tables::write_f64;
+use checks::view::cell_at;
 use forward::parameters::RuntimeParams;
 use forward::state::Branch;
 use forward::state::State;
@@ -33,7 +34,8 @@ struct Scored {
     step: StepRecord,
 }
 
-fn no_step() -> StepRecord
+// No record: what is read past the end, and what a refused step gives.
+pub fn no_step() -> StepRecord
     ensures { λ r. ⌜ r ≡ noStep ⌝ }
 {
     let state = State { s: 0.0, d: 0.0 };
@@ -50,7 +52,7 @@ fn no_step() -> StepRecord
     }
 }
 
-pub fn store(records: &mut [StepRecord], row: usize, step: StepRecord)
+fn store(records: &mut [StepRecord], row: usize, step: StepRecord)
     ensures { λ r. ⌜ now (records .exit) ≡ set (now (records .entry)) row step ⌝ }
 {
     if row < records.len() {
@@ -58,7 +60,7 @@ pub fn store(records: &mut [StepRecord], row: usize, step: StepRecord)
     }
 }
 
-pub fn load(records: &[StepRecord], row: usize) -> StepRecord
+fn load(records: &[StepRecord], row: usize) -> StepRecord
     ensures { λ r. ⌜ r ≡ getD (now (records .entry)) row noStep ⌝ }
 {
     if row < records.len() {
@@ -107,6 +109,33 @@ pub fn column_backward_steps(
     }
 }
 
+fn unscored_backward(p: RuntimeParams, step: StepRecord, g: StateGrad, gw: &mut [f64]) -> StateGrad
+    ensures { λ r. ⌜
+        (r ≡ stepGrad p step (g .s) (g .d) zero64) × (now (gw .exit) ≡ stepMoved p step (g .s) (g .d) zero64 (now (gw .entry))) ⌝ }
+{
+    step_backward(p, step, g.s, g.d, 0.0, gw)
+}
+
+// Of a prefix: no step is scored.
+pub fn prefix_backward_steps(
+    p: RuntimeParams,
+    records: &[StepRecord],
+    n: u32,
+    g_s: f64,
+    gw: &mut [f64],
+)
+    ensures { λ r. ⌜
+        now (gw .exit) ≡ backDef p (λ i. getD (now (records .entry)) i noStep) (λ i. zero64) n (startGrad «g_s») (now (gw .entry)) ⌝ }
+{
+    let mut g = StateGrad { s: g_s, d: 0.0 };
+    let mut i = n;
+    while i > 0 {
+        i -= 1;
+        let step = load(records, i as usize);
+        g = unscored_backward(p, step, g, gw);
+    }
+}
+
 // A row's step: its record, and the state after it.
 fn prefix_row(
     p: RuntimeParams,
@@ -120,9 +149,8 @@ fn prefix_row(
 ) -> Stepped
     ensures { λ r. ⌜ r ≡ nextDef p (historyOf (now («t_hist» .entry)) (now («r_hist» .entry)) batch column first) row q ⌝ }
 {
-    let k = cell_of(row, batch, column);
-    let day = read(t_hist, k);
-    let rating = read(r_hist, k);
+    let day = cell_at(t_hist, batch, column, row);
+    let rating = cell_at(r_hist, batch, column, row);
     let number = row_from(row, first);
     let next = step_forward(p, q, day, rating, number as usize);
     let state = carried(row, first, next.state);
@@ -178,14 +206,16 @@ fn card_row(
         (scoreFrom p (historyOf (now («t_hist» .entry)) (now («r_hist» .entry)) batch column first)
         (view (now (labels .entry)) batch column) (weightsOf align (now («r_hist» .entry)) (now (weights .entry)) batch column) row (run .state) .«g_r»)) ⌝ }
 {
+    let day = cell_at(t_hist, batch, column, row);
+    let rating = cell_at(r_hist, batch, column, row);
+    let label = cell_at(labels, batch, column, row);
     let k = cell_of(row, batch, column);
-    let rating = read(r_hist, k);
     let weight = weight_at(align, r_hist, weights, k);
     let number = row_from(row, first);
     let q = run.state;
-    let next = step_forward(p, q, read(t_hist, k), rating, number as usize);
+    let next = step_forward(p, q, day, rating, number as usize);
     let step = next.step;
-    let score = row_score(true, number, step.retrievability, read(labels, k), weight);
+    let score = row_score(true, number, step.retrievability, label, weight);
     let g_r = score.g_r;
     write_f64(step_grads, row as usize, g_r);
     let state = carried(row, first, next.state);

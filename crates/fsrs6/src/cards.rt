@@ -1,13 +1,14 @@
 // The loss of a batch of cards: alone, and with its gradient. `end` says that histories stand at the end of
 // their tables, behind padding.
-ghost use Rattle.analytic_v6.specs.Cards.{cardsLoss, cardsLossAndGrad, CardsLeave};
+ghost use Rattle.columns.specs.Records.{roomDef};
+ghost use Rattle.analytic_v6.specs.Cards.{cardsLoss, cardsLossAndGrad, CardsColumnsLeave};
 ghost use Rattle.checks.specs.Align.{alignOf};
 ghost use Rattle.checks.specs.Batch.{cardsOf, cardsIn};
 ghost use Rattle.fsrs6.specs.Places.{Answered};
 ghost use lib.ListN.{length};
 use crate::places::put_f64;
-use analytic_v6::cards::grad::card_loss_and_grad;
-use analytic_v6::cards::grad::card_loss_and_grad_in;
+use analytic_v6::cards::grad_columns::card_loss_and_grad_columns;
+use analytic_v6::cards::grad_columns::card_loss_and_grad_columns_in;
 use analytic_v6::cards::loss::card_loss;
 use analytic_v6::cards::loss::card_loss_in;
 use checks::align::align_of;
@@ -51,12 +52,12 @@ pub extern "C" fn fsrs_card_loss_and_grad(
     ensures { λ n. ⌜
         (let x = cardsOf (now («t_hist» .entry)) (now («r_hist» .entry)) «seq_len» batch (now («seq_lens» .entry))
         (now (labels .entry)) (now (weights .entry)) in
-        Answered (cardsLossAndGrad (now (w .entry)) x (length (now (gw .entry))) (length (now (records .entry)))
+        Answered (cardsLossAndGrad (now (w .entry)) x (length (now (gw .entry))) (roomDef (length (now (records .entry))))
         (length (now («step_grads» .entry)))) n (now (loss .entry)) (now (loss .exit)) ×
-        CardsLeave (now (w .entry)) x (now (gw .entry)) (now (records .entry)) (now («step_grads» .entry)) (now (gw .exit))
+        CardsColumnsLeave (now (w .entry)) x (now (gw .entry)) (now (records .entry)) (now («step_grads» .entry)) (now (gw .exit))
         (now (records .exit)) (now («step_grads» .exit))) ⌝ }
 {
-    let graded = card_loss_and_grad(
+    let graded = card_loss_and_grad_columns(
         w,
         t_hist,
         r_hist,
@@ -124,12 +125,12 @@ pub extern "C" fn fsrs_card_loss_and_grad_in(
     ensures { λ n. ⌜
         (let x = cardsIn (alignOf end) (now («t_hist» .entry)) (now («r_hist» .entry)) «seq_len» batch (now («seq_lens» .entry))
         (now (labels .entry)) (now (weights .entry)) in
-        Answered (cardsLossAndGrad (now (w .entry)) x (length (now (gw .entry))) (length (now (records .entry)))
+        Answered (cardsLossAndGrad (now (w .entry)) x (length (now (gw .entry))) (roomDef (length (now (records .entry))))
         (length (now («step_grads» .entry)))) n (now (loss .entry)) (now (loss .exit)) ×
-        CardsLeave (now (w .entry)) x (now (gw .entry)) (now (records .entry)) (now («step_grads» .entry)) (now (gw .exit))
+        CardsColumnsLeave (now (w .entry)) x (now (gw .entry)) (now (records .entry)) (now («step_grads» .entry)) (now (gw .exit))
         (now (records .exit)) (now («step_grads» .exit))) ⌝ }
 {
-    let a = card_loss_and_grad_in(
+    let a = card_loss_and_grad_columns_in(
         align_of(end),
         w,
         t_hist,

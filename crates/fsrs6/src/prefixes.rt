@@ -1,13 +1,14 @@
 // The loss of a batch of prefixes: alone, and with its gradient. `end` says that histories stand at the end of
 // their tables, behind padding.
-ghost use Rattle.analytic_v6.specs.Prefixes.{batchLoss, batchLossAndGrad, BatchLeaves};
+ghost use Rattle.columns.specs.Records.{roomDef};
+ghost use Rattle.analytic_v6.specs.Prefixes.{batchLoss, batchLossAndGrad, BatchColumnsLeave};
 ghost use Rattle.checks.specs.Align.{alignOf};
 ghost use Rattle.checks.specs.Batch.{prefixesOf, prefixesIn};
 ghost use Rattle.fsrs6.specs.Places.{Answered};
 ghost use lib.ListN.{length};
 use crate::places::put_f64;
-use analytic_v6::prefixes::grad::batch_loss_and_grad;
-use analytic_v6::prefixes::grad::batch_loss_and_grad_in;
+use analytic_v6::prefixes::grad_columns::batch_loss_and_grad_columns;
+use analytic_v6::prefixes::grad_columns::batch_loss_and_grad_columns_in;
 use analytic_v6::prefixes::loss::batch_loss;
 use analytic_v6::prefixes::loss::batch_loss_in;
 use checks::align::align_of;
@@ -63,11 +64,11 @@ pub extern "C" fn fsrs_batch_loss_and_grad(
     ensures { λ n. ⌜
         (let x = prefixesOf (now («t_hist» .entry)) (now («r_hist» .entry)) «seq_len» batch (now («seq_lens» .entry))
         (now («delta_ts» .entry)) (now (labels .entry)) (now (weights .entry)) in
-        Answered (batchLossAndGrad (now (w .entry)) x (length (now (gw .entry))) (length (now (records .entry)))) n
+        Answered (batchLossAndGrad (now (w .entry)) x (length (now (gw .entry))) (roomDef (length (now (records .entry))))) n
         (now (loss .entry)) (now (loss .exit)) ×
-        BatchLeaves (now (w .entry)) x (now (gw .entry)) (now (records .entry)) (now (gw .exit)) (now (records .exit))) ⌝ }
+        BatchColumnsLeave (now (w .entry)) x (now (gw .entry)) (now (records .entry)) (now (gw .exit)) (now (records .exit))) ⌝ }
 {
-    let graded = batch_loss_and_grad(
+    let graded = batch_loss_and_grad_columns(
         w,
         t_hist,
         r_hist,
@@ -138,11 +139,11 @@ pub extern "C" fn fsrs_batch_loss_and_grad_in(
     ensures { λ n. ⌜
         (let x = prefixesIn (alignOf end) (now («t_hist» .entry)) (now («r_hist» .entry)) «seq_len» batch (now («seq_lens» .entry))
         (now («delta_ts» .entry)) (now (labels .entry)) (now (weights .entry)) in
-        Answered (batchLossAndGrad (now (w .entry)) x (length (now (gw .entry))) (length (now (records .entry)))) n
+        Answered (batchLossAndGrad (now (w .entry)) x (length (now (gw .entry))) (roomDef (length (now (records .entry))))) n
         (now (loss .entry)) (now (loss .exit)) ×
-        BatchLeaves (now (w .entry)) x (now (gw .entry)) (now (records .entry)) (now (gw .exit)) (now (records .exit))) ⌝ }
+        BatchColumnsLeave (now (w .entry)) x (now (gw .entry)) (now (records .entry)) (now (gw .exit)) (now (records .exit))) ⌝ }
 {
-    let a = batch_loss_and_grad_in(
+    let a = batch_loss_and_grad_columns_in(
         align_of(end),
         w,
         t_hist,

@@ -1,4 +1,4 @@
--- Demand 3 of the eight loss entries: their contracts, and `promises` of the definitions that these name. Assumes nothing.
+-- Demand 3 of the twelve loss entries: their contracts, and `promises` of the definitions that these name. Assumes nothing.
 use mathlib.Core.List.{List}
 use mathlib.Core.Path.{sym, ap, _∙_}
 use lib.Ieee.{Float}
@@ -6,6 +6,7 @@ use Rattle.domain.specs.Weights.{_!_}
 use Rattle.promises.proofs.Frozen.{demand3}
 use Rattle.outcomes.specs.FrozenEntries.{prefix-call, prefix-weights, prefix-input, card-call, card-weights, card-input, FrozenEntries}
 use Rattle.outcomes.specs.FrozenEntries.{prefix-call-in, prefix-weights-in, prefix-input-in, card-call-in, card-weights-in, card-input-in}
+use Rattle.outcomes.specs.Walked.{batch-loss-and-grad-call, batch-loss-and-grad-in-call, card-loss-and-grad-call, card-loss-and-grad-in-call}
 
 pub frozen-entries : FrozenEntries
 frozen-entries =
@@ -30,4 +31,20 @@ frozen-entries =
         kept = λ κs a o c k z m. ap (λ (xs : List Float). xs ! k) (c .1 .1 .0) ∙ demand3 .1 .slot-kept (card-call-in κs a) k z m;
       };
       card-in = record { same = λ κs a b o q c d h g. c .1 ∙ demand3 .1 .same-loss (card-input-in κs a) (card-input-in κs b) (card-weights-in κs a) (card-weights-in κs b) h g ∙ sym (d .1) };
+      batch-grad-steps = record {
+        same = λ κs a b o q c d h. let e = demand3 .0 .same-outcome (batch-loss-and-grad-call κs a) (batch-loss-and-grad-call κs b) h in (c .0 ∙ e .0 ∙ sym (d .0), c .1 .0 ∙ e .1 ∙ sym (d .1 .0));
+        kept = λ κs a o c k z m. ap (λ (xs : List Float). xs ! k) (c .1 .0) ∙ demand3 .0 .slot-kept (batch-loss-and-grad-call κs a) k z m;
+      };
+      batch-grad-steps-in = record {
+        same = λ κs a b o q c d h. let e = demand3 .0 .same-outcome (batch-loss-and-grad-in-call κs a) (batch-loss-and-grad-in-call κs b) h in (c .0 ∙ e .0 ∙ sym (d .0), c .1 .0 ∙ e .1 ∙ sym (d .1 .0));
+        kept = λ κs a o c k z m. ap (λ (xs : List Float). xs ! k) (c .1 .0) ∙ demand3 .0 .slot-kept (batch-loss-and-grad-in-call κs a) k z m;
+      };
+      card-grad-steps = record {
+        same = λ κs a b o q c d h. let e = demand3 .1 .same-outcome (card-loss-and-grad-call κs a) (card-loss-and-grad-call κs b) h in (c .0 ∙ e .0 ∙ sym (d .0), c .1 .0 ∙ e .1 ∙ sym (d .1 .0));
+        kept = λ κs a o c k z m. ap (λ (xs : List Float). xs ! k) (c .1 .0) ∙ demand3 .1 .slot-kept (card-loss-and-grad-call κs a) k z m;
+      };
+      card-grad-steps-in = record {
+        same = λ κs a b o q c d h. let e = demand3 .1 .same-outcome (card-loss-and-grad-in-call κs a) (card-loss-and-grad-in-call κs b) h in (c .0 ∙ e .0 ∙ sym (d .0), c .1 .0 ∙ e .1 ∙ sym (d .1 .0));
+        kept = λ κs a o c k z m. ap (λ (xs : List Float). xs ! k) (c .1 .0) ∙ demand3 .1 .slot-kept (card-loss-and-grad-in-call κs a) k z m;
+      };
     }

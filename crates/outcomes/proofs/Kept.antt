@@ -4,10 +4,10 @@ use Rattle.outcomes.specs.Outcome.{Kept, keeps}
 use Rattle.outcomes.proofs.Tuples.{_⨾_, end, still, back}
 use Rattle.outcomes.proofs.Refused.{refused}
 use Rattle.analytic_v6.proofs.step.training_step_backward
-use Rattle.analytic_v6.proofs.prefixes.grad.batch_loss_and_grad
-use Rattle.analytic_v6.proofs.prefixes.grad.batch_loss_and_grad_in
-use Rattle.analytic_v6.proofs.cards.grad.card_loss_and_grad
-use Rattle.analytic_v6.proofs.cards.grad.card_loss_and_grad_in
+use Rattle.analytic_v6.proofs.prefixes.grad_columns.batch_loss_and_grad_columns
+use Rattle.analytic_v6.proofs.prefixes.grad_columns.batch_loss_and_grad_columns_in
+use Rattle.analytic_v6.proofs.cards.grad_columns.card_loss_and_grad_columns
+use Rattle.analytic_v6.proofs.cards.grad_columns.card_loss_and_grad_columns_in
 use Rattle.batch.proofs.run_file
 use Rattle.fsrs6.proofs.study.fsrs_power_forgetting_curve
 use Rattle.fsrs6.proofs.study.fsrs_next_interval
@@ -39,24 +39,26 @@ use Rattle.fsrs6.proofs.file.fsrs_batch_file
 -- never refuse: backward::curve::curve_backward
 -- never refuse: backward::step::step_backward columns::backward_pass::column_backward columns::forward_pass::prefix_forward_recorded columns::forward_pass::card_forward_recorded
 -- never refuse: columns::last_review::target_end columns::last_review::last_end
+-- never refuse: columns::step_records::prefix_forward_steps columns::step_records::card_forward_steps
+-- never refuse: columns::step_records::prefix_backward_steps columns::step_records::column_backward_steps
 
 -- analytic_v6::step
 pub kept-training-step-backward : Kept training_step_backward.Kinds.ps training_step_backward.Kinds.r (λ κs a z. z .refusal) (λ κs e. e) training_step_backward.Reads.Post
 kept-training-step-backward = keeps (λ κs a o c. ap (λ z. z .refusal) (c .0)) (λ κs a o c h. still ⨾ still ⨾ still ⨾ still ⨾ still ⨾ still ⨾ still ⨾ still ⨾ back (c .1 ∙ search refused) ⨾ end)
 
 -- analytic_v6::prefixes::grad
-pub kept-batch-loss-and-grad : Kept batch_loss_and_grad.Kinds.ps batch_loss_and_grad.Kinds.r (λ κs a z. z .refusal) (λ κs e. e) batch_loss_and_grad.Reads.Post
-kept-batch-loss-and-grad = keeps (λ κs a o c. ap (λ z. z .refusal) (c .0)) (λ κs a o c h. still ⨾ still ⨾ still ⨾ still ⨾ still ⨾ still ⨾ still ⨾ still ⨾ still ⨾ back (c .1 .0 ∙ search refused) ⨾ back (c .1 .1 ∙ search refused) ⨾ end)
+pub kept-batch-loss-and-grad-columns : Kept batch_loss_and_grad_columns.Kinds.ps batch_loss_and_grad_columns.Kinds.r (λ κs a z. z .refusal) (λ κs e. e) batch_loss_and_grad_columns.Reads.Post
+kept-batch-loss-and-grad-columns = keeps (λ κs a o c. ap (λ z. z .refusal) (c .0)) (λ κs a o c h. still ⨾ still ⨾ still ⨾ still ⨾ still ⨾ still ⨾ still ⨾ still ⨾ still ⨾ back (c .1 .0 ∙ search refused) ⨾ back (c .1 .1 ∙ search refused) ⨾ end)
 
-pub kept-batch-loss-and-grad-in : Kept batch_loss_and_grad_in.Kinds.ps batch_loss_and_grad_in.Kinds.r (λ κs a z. z .refusal) (λ κs e. e) batch_loss_and_grad_in.Reads.Post
-kept-batch-loss-and-grad-in = keeps (λ κs a o c. ap (λ z. z .refusal) (c .0)) (λ κs a o c h. still ⨾ still ⨾ still ⨾ still ⨾ still ⨾ still ⨾ still ⨾ still ⨾ still ⨾ still ⨾ back (c .1 .0 ∙ search refused) ⨾ back (c .1 .1 ∙ search refused) ⨾ end)
+pub kept-batch-loss-and-grad-columns-in : Kept batch_loss_and_grad_columns_in.Kinds.ps batch_loss_and_grad_columns_in.Kinds.r (λ κs a z. z .refusal) (λ κs e. e) batch_loss_and_grad_columns_in.Reads.Post
+kept-batch-loss-and-grad-columns-in = keeps (λ κs a o c. ap (λ z. z .refusal) (c .0)) (λ κs a o c h. still ⨾ still ⨾ still ⨾ still ⨾ still ⨾ still ⨾ still ⨾ still ⨾ still ⨾ still ⨾ back (c .1 .0 ∙ search refused) ⨾ back (c .1 .1 ∙ search refused) ⨾ end)
 
 -- analytic_v6::cards::grad
-pub kept-card-loss-and-grad : Kept card_loss_and_grad.Kinds.ps card_loss_and_grad.Kinds.r (λ κs a z. z .refusal) (λ κs e. e) card_loss_and_grad.Reads.Post
-kept-card-loss-and-grad = keeps (λ κs a o c. ap (λ z. z .refusal) (c .0)) (λ κs a o c h. still ⨾ still ⨾ still ⨾ still ⨾ still ⨾ still ⨾ still ⨾ still ⨾ back (c .1 .0 ∙ search refused) ⨾ back (c .1 .1 ∙ search refused) ⨾ back (c .1 .2 ∙ search refused) ⨾ end)
+pub kept-card-loss-and-grad-columns : Kept card_loss_and_grad_columns.Kinds.ps card_loss_and_grad_columns.Kinds.r (λ κs a z. z .refusal) (λ κs e. e) card_loss_and_grad_columns.Reads.Post
+kept-card-loss-and-grad-columns = keeps (λ κs a o c. ap (λ z. z .refusal) (c .0)) (λ κs a o c h. still ⨾ still ⨾ still ⨾ still ⨾ still ⨾ still ⨾ still ⨾ still ⨾ back (c .1 .0 ∙ search refused) ⨾ back (c .1 .1 ∙ search refused) ⨾ back (c .1 .2 ∙ search refused) ⨾ end)
 
-pub kept-card-loss-and-grad-in : Kept card_loss_and_grad_in.Kinds.ps card_loss_and_grad_in.Kinds.r (λ κs a z. z .refusal) (λ κs e. e) card_loss_and_grad_in.Reads.Post
-kept-card-loss-and-grad-in = keeps (λ κs a o c. ap (λ z. z .refusal) (c .0)) (λ κs a o c h. still ⨾ still ⨾ still ⨾ still ⨾ still ⨾ still ⨾ still ⨾ still ⨾ still ⨾ back (c .1 .0 ∙ search refused) ⨾ back (c .1 .1 ∙ search refused) ⨾ back (c .1 .2 ∙ search refused) ⨾ end)
+pub kept-card-loss-and-grad-columns-in : Kept card_loss_and_grad_columns_in.Kinds.ps card_loss_and_grad_columns_in.Kinds.r (λ κs a z. z .refusal) (λ κs e. e) card_loss_and_grad_columns_in.Reads.Post
+kept-card-loss-and-grad-columns-in = keeps (λ κs a o c. ap (λ z. z .refusal) (c .0)) (λ κs a o c h. still ⨾ still ⨾ still ⨾ still ⨾ still ⨾ still ⨾ still ⨾ still ⨾ still ⨾ back (c .1 .0 ∙ search refused) ⨾ back (c .1 .1 ∙ search refused) ⨾ back (c .1 .2 ∙ search refused) ⨾ end)
 
 -- batch
 pub kept-run-file : Kept run_file.Kinds.ps run_file.Kinds.r (λ κs a z. z .refusal) (λ κs e. e) run_file.Reads.Post

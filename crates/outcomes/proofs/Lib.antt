@@ -9,3 +9,4 @@ pub mod Losses
 pub mod Face
 pub mod Kept
 pub mod Frozen
+pub mod Walked

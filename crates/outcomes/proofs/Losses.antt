@@ -15,11 +15,13 @@ use Rattle.checks.proofs.tables.write
 use Rattle.checks.proofs.tables.read_f64
 use Rattle.checks.proofs.tables.write_f64
 use Rattle.checks.proofs.tables.cut_length
+use Rattle.checks.proofs.view.cell_at
 use Rattle.checks.proofs.refusals.card_grad_refusal
 use Rattle.checks.proofs.refusals.card_loss_refusal
 use Rattle.checks.proofs.refusals.prefix_grad_refusal
 use Rattle.checks.proofs.refusals.prefix_loss_refusal
 use Rattle.columns.proofs.records.room
+use Rattle.columns.proofs.step_records.no_step
 use Rattle.columns.proofs.records.store_step
 use Rattle.columns.proofs.last_review.target_loss
 use Rattle.columns.proofs.last_review.target_end
@@ -30,12 +32,12 @@ use Rattle.columns.proofs.forward_pass.prefix_forward
 use Rattle.columns.proofs.forward_pass.card_forward
 use Rattle.columns.proofs.forward_pass.card_forward_recorded
 use Rattle.columns.proofs.forward_pass.prefix_forward_recorded
-use Rattle.analytic_v6.proofs.prefixes.grad.batch_loss_and_grad
-use Rattle.analytic_v6.proofs.prefixes.grad.batch_loss_and_grad_in
+use Rattle.analytic_v6.proofs.prefixes.grad_columns.batch_loss_and_grad_columns
+use Rattle.analytic_v6.proofs.prefixes.grad_columns.batch_loss_and_grad_columns_in
 use Rattle.analytic_v6.proofs.prefixes.loss.batch_loss
 use Rattle.analytic_v6.proofs.prefixes.loss.batch_loss_in
-use Rattle.analytic_v6.proofs.cards.grad.card_loss_and_grad
-use Rattle.analytic_v6.proofs.cards.grad.card_loss_and_grad_in
+use Rattle.analytic_v6.proofs.cards.grad_columns.card_loss_and_grad_columns
+use Rattle.analytic_v6.proofs.cards.grad_columns.card_loss_and_grad_columns_in
 use Rattle.analytic_v6.proofs.cards.loss.card_loss
 use Rattle.analytic_v6.proofs.cards.loss.card_loss_in
 use Rattle.batch.proofs.run_file
@@ -86,6 +88,10 @@ one-write-f64 = one (λ κs a o c. none ⨾ c ⨾ none ⨾ none ⨾ end)
 pub one-cut-length : One cut_length.Kinds.ps cut_length.Kinds.r cut_length.Reads.Post
 one-cut-length = one (λ κs a o c. c ⨾ none ⨾ none ⨾ none ⨾ end)
 
+-- checks::view
+pub one-cell-at : One cell_at.Kinds.ps cell_at.Kinds.r cell_at.Reads.Post
+one-cell-at = one (λ κs a o c. c ⨾ none ⨾ none ⨾ none ⨾ none ⨾ end)
+
 -- checks::refusals
 pub one-card-grad-refusal : One card_grad_refusal.Kinds.ps card_grad_refusal.Kinds.r card_grad_refusal.Reads.Post
 one-card-grad-refusal = one (λ κs a o c. c ⨾ none ⨾ none ⨾ none ⨾ none ⨾ none ⨾ none ⨾ none ⨾ none ⨾ none ⨾ none ⨾ none ⨾ none ⨾ end)
@@ -98,6 +104,10 @@ one-prefix-grad-refusal = one (λ κs a o c. c ⨾ none ⨾ none ⨾ none ⨾ no
 
 pub one-prefix-loss-refusal : One prefix_loss_refusal.Kinds.ps prefix_loss_refusal.Kinds.r prefix_loss_refusal.Reads.Post
 one-prefix-loss-refusal = one (λ κs a o c. c ⨾ none ⨾ none ⨾ none ⨾ none ⨾ none ⨾ none ⨾ none ⨾ none ⨾ none ⨾ none ⨾ end)
+
+-- columns::step_records
+pub one-no-step : One no_step.Kinds.ps no_step.Kinds.r no_step.Reads.Post
+one-no-step = one (λ κs a o c. c ⨾ end)
 
 -- columns::records
 pub one-room : One room.Kinds.ps room.Kinds.r room.Reads.Post
@@ -139,11 +149,11 @@ pub one-prefix-forward-recorded : One prefix_forward_recorded.Kinds.ps prefix_fo
 one-prefix-forward-recorded = one (λ κs a o c. c .0 ⨾ none ⨾ none ⨾ none ⨾ none ⨾ none ⨾ none ⨾ none ⨾ c .1 ⨾ end)
 
 -- analytic_v6::prefixes::grad
-pub one-batch-loss-and-grad : One batch_loss_and_grad.Kinds.ps batch_loss_and_grad.Kinds.r batch_loss_and_grad.Reads.Post
-one-batch-loss-and-grad = one (λ κs a o c. c .0 ⨾ none ⨾ none ⨾ none ⨾ none ⨾ none ⨾ none ⨾ none ⨾ none ⨾ none ⨾ c .1 .0 ⨾ c .1 .1 ⨾ end)
+pub one-batch-loss-and-grad-columns : One batch_loss_and_grad_columns.Kinds.ps batch_loss_and_grad_columns.Kinds.r batch_loss_and_grad_columns.Reads.Post
+one-batch-loss-and-grad-columns = one (λ κs a o c. c .0 ⨾ none ⨾ none ⨾ none ⨾ none ⨾ none ⨾ none ⨾ none ⨾ none ⨾ none ⨾ c .1 .0 ⨾ c .1 .1 ⨾ end)
 
-pub one-batch-loss-and-grad-in : One batch_loss_and_grad_in.Kinds.ps batch_loss_and_grad_in.Kinds.r batch_loss_and_grad_in.Reads.Post
-one-batch-loss-and-grad-in = one (λ κs a o c. c .0 ⨾ none ⨾ none ⨾ none ⨾ none ⨾ none ⨾ none ⨾ none ⨾ none ⨾ none ⨾ none ⨾ c .1 .0 ⨾ c .1 .1 ⨾ end)
+pub one-batch-loss-and-grad-columns-in : One batch_loss_and_grad_columns_in.Kinds.ps batch_loss_and_grad_columns_in.Kinds.r batch_loss_and_grad_columns_in.Reads.Post
+one-batch-loss-and-grad-columns-in = one (λ κs a o c. c .0 ⨾ none ⨾ none ⨾ none ⨾ none ⨾ none ⨾ none ⨾ none ⨾ none ⨾ none ⨾ none ⨾ c .1 .0 ⨾ c .1 .1 ⨾ end)
 
 -- analytic_v6::prefixes::loss
 pub one-batch-loss : One batch_loss.Kinds.ps batch_loss.Kinds.r batch_loss.Reads.Post
@@ -153,11 +163,11 @@ pub one-batch-loss-in : One batch_loss_in.Kinds.ps batch_loss_in.Kinds.r batch_l
 one-batch-loss-in = one (λ κs a o c. c ⨾ none ⨾ none ⨾ none ⨾ none ⨾ none ⨾ none ⨾ none ⨾ none ⨾ none ⨾ none ⨾ end)
 
 -- analytic_v6::cards::grad
-pub one-card-loss-and-grad : One card_loss_and_grad.Kinds.ps card_loss_and_grad.Kinds.r card_loss_and_grad.Reads.Post
-one-card-loss-and-grad = one (λ κs a o c. c .0 ⨾ none ⨾ none ⨾ none ⨾ none ⨾ none ⨾ none ⨾ none ⨾ none ⨾ c .1 .0 ⨾ c .1 .1 ⨾ c .1 .2 ⨾ end)
+pub one-card-loss-and-grad-columns : One card_loss_and_grad_columns.Kinds.ps card_loss_and_grad_columns.Kinds.r card_loss_and_grad_columns.Reads.Post
+one-card-loss-and-grad-columns = one (λ κs a o c. c .0 ⨾ none ⨾ none ⨾ none ⨾ none ⨾ none ⨾ none ⨾ none ⨾ none ⨾ c .1 .0 ⨾ c .1 .1 ⨾ c .1 .2 ⨾ end)
 
-pub one-card-loss-and-grad-in : One card_loss_and_grad_in.Kinds.ps card_loss_and_grad_in.Kinds.r card_loss_and_grad_in.Reads.Post
-one-card-loss-and-grad-in = one (λ κs a o c. c .0 ⨾ none ⨾ none ⨾ none ⨾ none ⨾ none ⨾ none ⨾ none ⨾ none ⨾ none ⨾ c .1 .0 ⨾ c .1 .1 ⨾ c .1 .2 ⨾ end)
+pub one-card-loss-and-grad-columns-in : One card_loss_and_grad_columns_in.Kinds.ps card_loss_and_grad_columns_in.Kinds.r card_loss_and_grad_columns_in.Reads.Post
+one-card-loss-and-grad-columns-in = one (λ κs a o c. c .0 ⨾ none ⨾ none ⨾ none ⨾ none ⨾ none ⨾ none ⨾ none ⨾ none ⨾ none ⨾ c .1 .0 ⨾ c .1 .1 ⨾ c .1 .2 ⨾ end)
 
 -- analytic_v6::cards::loss
 pub one-card-loss : One card_loss.Kinds.ps card_loss.Kinds.r card_loss.Reads.Post

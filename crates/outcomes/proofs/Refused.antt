@@ -16,8 +16,9 @@ use Rattle.analytic_v6.proofs.Entry.{slots-refused}
 use Rattle.analytic_v6.specs.Answers.{answer}
 use Rattle.analytic_v6.specs.declared.answers.Loss.{Loss}
 use Rattle.checks.specs.Batch.{Prefixes, Cards}
-use Rattle.analytic_v6.specs.Prefixes.{batchLossAndGrad, batchSlots, batchRecords}
-use Rattle.analytic_v6.specs.Cards.{cardsLossAndGrad, cardsSlots, cardsRecords, cardsGrads}
+use Rattle.columns.specs.Records.{roomDef}
+use Rattle.analytic_v6.specs.Prefixes.{batchLossAndGrad, batchSlots, batchSteps, batchRecords}
+use Rattle.analytic_v6.specs.Cards.{cardsLossAndGrad, cardsSlots, cardsSteps, cardsRecords, cardsGrads}
 use Rattle.batch.specs.Header.{sectionsOf, wellFormed}
 use Rattle.batch.specs.declared.header.Header.{Header}
 use Rattle.batch.specs.File.{prefixLossIn, prefixSlotsIn, cardLossIn, cardSlotsIn, callLoss, callSlots, cellsOf, lengthsOf, fileLoss, fileSlots}
@@ -43,14 +44,19 @@ module _ (w : List Float) (q : State) (day rating : Float) (row : ℕ) (g-s g-d 
 -- ---- the loss of a batch of prefixes
 module _ (w : List Float) (x : Prefixes) where
   pub prefix-slots :
-      (gw : List Float) (records : ℕ) → (batchLossAndGrad w x (length gw) records .refusal ≡ 0 → ⊥) → batchSlots w x gw records ≡ gw
+      (gw : List Float) (room : ℕ) → (batchLossAndGrad w x (length gw) room .refusal ≡ 0 → ⊥) → batchSlots w x gw room ≡ gw
   unfolding batchLossAndGrad batchSlots answer
-  prefix-slots gw records h = rw (ne-eqb _ 0 h)
+  prefix-slots gw room h = rw (ne-eqb _ 0 h)
 
   pub prefix-records :
-      (gw : ℕ) (records : List Float) → (batchLossAndGrad w x gw (length records) .refusal ≡ 0 → ⊥) → batchRecords w x gw records ≡ records
+      (gw : ℕ) (records : List Float) → (batchLossAndGrad w x gw (roomDef (length records)) .refusal ≡ 0 → ⊥) → batchRecords w x gw records ≡ records
   unfolding batchLossAndGrad batchRecords answer
   prefix-records gw records h = rw (ne-eqb _ 0 h)
+
+  pub prefix-steps :
+      (gw : ℕ) (records : List StepRecord) → (batchLossAndGrad w x gw (length records) .refusal ≡ 0 → ⊥) → batchSteps w x gw records ≡ records
+  unfolding batchLossAndGrad batchSteps answer
+  prefix-steps gw records h = rw (ne-eqb _ 0 h)
 
 -- ---- the loss of a batch of cards
 module _ (w : List Float) (x : Cards) where
@@ -61,10 +67,16 @@ module _ (w : List Float) (x : Cards) where
   card-slots gw records grads h = rw (ne-eqb _ 0 h)
 
   pub card-records :
-      (gw : ℕ) (records : List Float) (grads : ℕ) → (cardsLossAndGrad w x gw (length records) grads .refusal ≡ 0 → ⊥) →
+      (gw : ℕ) (records : List Float) (grads : ℕ) → (cardsLossAndGrad w x gw (roomDef (length records)) grads .refusal ≡ 0 → ⊥) →
       cardsRecords w x gw records grads ≡ records
   unfolding cardsLossAndGrad cardsRecords answer
   card-records gw records grads h = rw (ne-eqb _ 0 h)
+
+  pub card-steps :
+      (gw : ℕ) (records : List StepRecord) (grads : ℕ) → (cardsLossAndGrad w x gw (length records) grads .refusal ≡ 0 → ⊥) →
+      cardsSteps w x gw records grads ≡ records
+  unfolding cardsLossAndGrad cardsSteps answer
+  card-steps gw records grads h = rw (ne-eqb _ 0 h)
 
   pub card-grads :
       (gw records : ℕ) (grads : List Float) → (cardsLossAndGrad w x gw records (length grads) .refusal ≡ 0 → ⊥) →
@@ -100,4 +112,4 @@ pub file-slots : (file : List ℕ) (gw : List Float) → (fileLoss file (length 
 unfolding fileLoss fileSlots
 file-slots file gw k = of-form (sectionsOf file) (cellsOf file) (lengthsOf file) gw (wellFormed file) _ k
 
-pub ruleset refused = (place, numbers, reverse-slots, prefix-slots, prefix-records, card-slots, card-records, card-grads, file-slots)
+pub ruleset refused = (place, numbers, reverse-slots, prefix-slots, prefix-steps, prefix-records, card-slots, card-steps, card-records, card-grads, file-slots)

@@ -1,2 +1,3 @@
 pub mod FrozenEntries
 pub mod Outcome
+pub mod Walked

@@ -1,6 +1,6 @@
 -- A loss call of either kind, and what the two kinds differ in. The entries' contracts are equations with these definitions:
--- batch_loss_and_grad, batch_loss, card_loss_and_grad and card_loss (analytic_v6), and the four `…_in` that take the mode. Assumes
--- nothing.
+-- batch_loss_and_grad, batch_loss, card_loss_and_grad and card_loss (analytic_v6), the two `…_columns`, which are lent their records as plain columns of singles, and the
+-- six `…_in` that take the mode. Assumes nothing.
 use Prim.Native.Nat.{ℕ, _-_}
 use mathlib.Core.Bool.{Bool, _&&_}
 use mathlib.Core.List.{List, []}
@@ -10,13 +10,12 @@ use lib.ListN.{length}
 use Rattle.checks.specs.Reads.{nonZero, cardLabel}
 use Rattle.checks.specs.Batch.{Table, Prefixes, Cards, lengthAt, firstAt, targetWeightAt, weightAt}
 use Rattle.checks.specs.Refusals.{longestOf, prefixLossRefusal, prefixGradRefusal, cardLossRefusal, cardGradRefusal}
-use Rattle.columns.specs.Records.{roomDef}
 use Rattle.analytic_v6.specs.declared.answers.Loss.{Loss}
 use Rattle.analytic_v6.specs.Prefixes.{batchLossAndGrad, batchSlots, batchLoss}
 use Rattle.analytic_v6.specs.Cards.{cardsLossAndGrad, cardsSlots, cardsLoss}
 use Rattle.promises.specs.CallReads.{Slice, days, ratings, targets, labels, weights, prefixCell, prefixReads, cardCell, cardReads}
 
--- what a gradient call is lent: weights, cells, starting gradients, and room: singles for records, doubles for step gradients (of
+-- what a gradient call is lent: weights, cells, starting gradients, and room: so many rows of records, in either layout, and doubles for step gradients (of
 -- which a prefix is lent none)
 pub record Call (Input : Type 0) : Type 0 where
   pub w : List Float
@@ -69,8 +68,8 @@ prefixes = record {
   reads = prefixReads;
   steps = λ x column. lengthAt (x .table) column;
   scored = λ x column. nonZero (targetWeightAt x column);
-  room = λ c. leb (longestOf (c .x .table)) (roomDef (c .records));
-  refusal = λ c. prefixGradRefusal (c .w) (c .x) (length (c .gw)) (roomDef (c .records));
+  room = λ c. leb (longestOf (c .x .table)) (c .records);
+  refusal = λ c. prefixGradRefusal (c .w) (c .x) (length (c .gw)) (c .records);
   answer = λ c. batchLossAndGrad (c .w) (c .x) (length (c .gw)) (c .records);
   slots = λ c. batchSlots (c .w) (c .x) (c .gw) (c .records);
   alone-refusal = prefixLossRefusal;
@@ -87,8 +86,8 @@ cards = record {
   reads = cardReads;
   steps = λ x column. lengthAt (x .table) column - 1;
   scored = λ x column. let last = lengthAt (x .table) column - 1 in cardLabel (last - firstAt (x .table) column) (weightAt x column last);
-  room = λ c. leb (longestOf (c .x .table)) (roomDef (c .records)) && leb (longestOf (c .x .table)) (c .step-grads);
-  refusal = λ c. cardGradRefusal (c .w) (c .x) (length (c .gw)) (roomDef (c .records)) (c .step-grads);
+  room = λ c. leb (longestOf (c .x .table)) (c .records) && leb (longestOf (c .x .table)) (c .step-grads);
+  refusal = λ c. cardGradRefusal (c .w) (c .x) (length (c .gw)) (c .records) (c .step-grads);
   answer = λ c. cardsLossAndGrad (c .w) (c .x) (length (c .gw)) (c .records) (c .step-grads);
   slots = λ c. cardsSlots (c .w) (c .x) (c .gw) (c .records) (c .step-grads);
   alone-refusal = cardLossRefusal;

@@ -1,87 +1,81 @@
-// The loss with its gradient.
+// The loss with its gradient, over a lent slice of step records.
 ghost use mathlib.Core.Path.{_≡_};
-ghost use Prim.Native.Nat.{_≤_};
-ghost use lib.ListN.{length};
-ghost use Rattle.checks.specs.Sizes.{longestDef};
-ghost use Rattle.columns.specs.Records.{roomDef};
+ghost use mathlib.Core.Bool.{cond};
+ghost use Prim.Native.Nat.{_-_};
+ghost use lib.Dec.{eqb};
+ghost use lib.ListN.{length, set};
+ghost use Rattle.domain.specs.Doubles.{_+ᵈ_, zero64};
 ghost use Rattle.checks.specs.Columns.{total, through};
-ghost use Rattle.checks.specs.Batch.{cardsIn, cardsOf};
-ghost use Rattle.checks.specs.Tables.{cutAt};
-ghost use Rattle.analytic_v6.specs.Cards.{cardLoss, cardSlots, cardRecords, cardGrads, cardsLossAndGrad, CardsLeave};
+ghost use Rattle.checks.specs.Batch.{view, weightsOf, cardsIn, cardsOf};
+ghost use Rattle.columns.specs.LastReview.{lastLoss, lastGrad, lastSlots};
+ghost use Rattle.analytic_v6.specs.Cards.{cardLoss, cardSteps, cardGrads, cardsLossAndGrad, CardsLeave};
+ghost use Rattle.analytic_v6.specs.inner.Over.{cardSlotsOver};
 use crate::answers::Loss;
+use crate::rows::Rows;
+use crate::rows::params_of;
+use crate::rows::rows_of;
 use checks::align::Align;
-use checks::align::first_review;
 use checks::align::row_from;
 use checks::align::weight_at;
 use checks::refusals::card_grad_refusal;
 use checks::tables::cell_of;
-use checks::tables::cut_length;
-use checks::tables::read;
 use checks::tables::write_f64;
-use columns::backward_pass::column_backward;
-use columns::forward_pass::card_forward_recorded;
+use checks::view::cell_at;
+use columns::forward_pass::Run;
+use columns::last_review::Ending;
 use columns::last_review::last_end;
-use columns::records::room;
-use domain::weights::copy_weights;
+use columns::step_records::card_forward_steps;
+use columns::step_records::column_backward_steps;
 use forward::parameters::RuntimeParams;
-use forward::parameters::runtime_params;
+use forward::state::StepRecord;
 
-fn column_loss_and_grad(
+// A card's last row, after the run of the rows before it; the card's loss is added. A card of no rows has none.
+fn last_at(
     p: RuntimeParams,
     align: Align,
+    rows: Rows,
+    run: Run,
+    loss: f64,
     t_hist: &[f32],
     r_hist: &[f32],
-    seq_len: u32,
     batch: u32,
-    seq_lens: &[u32],
     labels: &[f32],
     weights: &[f32],
     column: u32,
     gw: &mut [f64],
-    records: &mut [f32],
     step_grads: &mut [f64],
-) -> f64
-    requires { ⌜
-        (cutAt (now «seq_lens») «seq_len» column ≤ roomDef (length (now records))) ×
-        (cutAt (now «seq_lens») «seq_len» column ≤ length (now «step_grads»)) ⌝ }
+) -> Ending
     ensures { λ r. ⌜
-        (let x = cardsIn align (now («t_hist» .entry)) (now («r_hist» .entry)) «seq_len» batch (now («seq_lens» .entry))
-        (now (labels .entry)) (now (weights .entry)) in
-        (r ≡ cardLoss p x column) ×
-        (now (gw .exit) ≡ cardSlots p x column (now (gw .entry))) ×
-        (now (records .exit) ≡ cardRecords p x column (now (records .entry))) ×
-        (now («step_grads» .exit) ≡ cardGrads p x column (now («step_grads» .entry)))) ⌝ }
+        (let number = rows .last - rows .first in
+        let s = run .state .s in
+        let day = view (now («t_hist» .entry)) batch column (rows .last) in
+        let label = view (now (labels .entry)) batch column (rows .last) in
+        let weight = weightsOf align (now («r_hist» .entry)) (now (weights .entry)) batch column (rows .last) in
+        (r ≡ record {
+          loss = loss +ᵈ cond (eqb (rows .n) 0) zero64 (lastLoss p number s day label weight (run .loss));
+          «g_s» = cond (eqb (rows .n) 0) zero64 (lastGrad p number s day label weight);
+        }) ×
+        (now (gw .exit) ≡ cond (eqb (rows .n) 0) (now (gw .entry)) (lastSlots p number s day label weight (now (gw .entry)))) ×
+        (now («step_grads» .exit) ≡ cond (eqb (rows .n) 0) (now («step_grads» .entry)) (set (now («step_grads» .entry)) (rows .last) zero64))) ⌝ }
 {
-    let n = cut_length(seq_lens, seq_len, column);
-    if n == 0 {
-        return 0.0;
+    if rows.n == 0 {
+        return Ending {
+            loss: loss + 0.0,
+            g_s: 0.0,
+        };
     }
-    let m = n - 1;
-    let first = first_review(align, r_hist, batch, column, n);
-    let run = card_forward_recorded(
-        p,
-        align,
-        t_hist,
-        r_hist,
-        batch,
-        labels,
-        weights,
-        column,
-        first,
-        m,
-        records,
-        step_grads,
-    );
     let state = run.state;
-    let k = cell_of(m, batch, column);
-    let day = read(t_hist, k);
-    let label = read(labels, k);
+    let day = cell_at(t_hist, batch, column, rows.last);
+    let label = cell_at(labels, batch, column, rows.last);
+    let k = cell_of(rows.last, batch, column);
     let weight = weight_at(align, r_hist, weights, k);
-    let number = row_from(m, first);
-    write_f64(step_grads, m as usize, 0.0);
+    let number = row_from(rows.last, rows.first);
+    write_f64(step_grads, rows.last as usize, 0.0);
     let end = last_end(p, number, state.s, day, label, weight, run.loss, gw);
-    column_backward(p, records, step_grads, m, end.g_s, gw);
-    end.loss
+    Ending {
+        loss: loss + end.loss,
+        g_s: end.g_s,
+    }
 }
 
 fn batch_total_and_grad(
@@ -95,46 +89,59 @@ fn batch_total_and_grad(
     labels: &[f32],
     weights: &[f32],
     gw: &mut [f64],
-    records: &mut [f32],
+    records: &mut [StepRecord],
     step_grads: &mut [f64],
 ) -> f64
-    requires { ⌜
-        (longestDef (now «seq_lens») «seq_len» batch ≤ roomDef (length (now records))) ×
-        (longestDef (now «seq_lens») «seq_len» batch ≤ length (now «step_grads»)) ⌝ }
     ensures { λ r. ⌜
         (let x = cardsIn align (now («t_hist» .entry)) (now («r_hist» .entry)) «seq_len» batch (now («seq_lens» .entry))
         (now (labels .entry)) (now (weights .entry)) in
         (r ≡ total (cardLoss p x) batch) ×
-        (now (gw .exit) ≡ through (cardSlots p x) batch (now (gw .entry))) ×
-        (now (records .exit) ≡ through (cardRecords p x) batch (now (records .entry))) ×
+        (now (gw .exit) ≡ cardSlotsOver p x batch (now (records .entry)) (now («step_grads» .entry)) (now (gw .entry))) ×
+        (now (records .exit) ≡ through (cardSteps p x) batch (now (records .entry))) ×
         (now («step_grads» .exit) ≡ through (cardGrads p x) batch (now («step_grads» .entry)))) ⌝ }
 {
     let mut loss = 0.0;
     let mut c = 0;
     while c < batch {
-        let part = column_loss_and_grad(
+        let rows = rows_of(align, r_hist, seq_len, batch, seq_lens, c);
+        let run = card_forward_steps(
             p,
             align,
             t_hist,
             r_hist,
-            seq_len,
             batch,
-            seq_lens,
+            labels,
+            weights,
+            c,
+            rows.first,
+            rows.last,
+            records,
+            step_grads,
+        );
+        let end = last_at(
+            p,
+            align,
+            rows,
+            run,
+            loss,
+            t_hist,
+            r_hist,
+            batch,
             labels,
             weights,
             c,
             gw,
-            records,
             step_grads,
         );
-        loss = loss + part;
+        column_backward_steps(p, records, step_grads, rows.last, end.g_s, gw);
+        loss = end.loss;
         c += 1;
     }
     loss
 }
 
 // The same loss, and its gradient added into the 21 slots of `gw`. `records` and `step_grads` are lent for one card at a
-// time: ten singles and a double for each row. A refused call changes none of the three.
+// time: a record and a double for each row. A refused call changes none of the three.
 pub fn card_loss_and_grad_in(
     align: Align,
     w: &[f32],
@@ -146,7 +153,7 @@ pub fn card_loss_and_grad_in(
     labels: &[f32],
     weights: &[f32],
     gw: &mut [f64],
-    records: &mut [f32],
+    records: &mut [StepRecord],
     step_grads: &mut [f64],
 ) -> Loss
     ensures { λ r. ⌜
@@ -157,8 +164,6 @@ pub fn card_loss_and_grad_in(
         CardsLeave (now (w .entry)) x (now (gw .entry)) (now (records .entry)) (now («step_grads» .entry)) (now (gw .exit))
         (now (records .exit)) (now («step_grads» .exit))) ⌝ }
 {
-    let slots = gw.len();
-    let space = room(records);
     let n = card_grad_refusal(
         align,
         w,
@@ -169,33 +174,29 @@ pub fn card_loss_and_grad_in(
         seq_lens,
         labels,
         weights,
-        slots,
-        space,
+        gw.len(),
+        records.len(),
         step_grads.len(),
     );
-    if n != 0 {
-        return Loss {
-            refusal: n,
-            loss: 0.0,
-        };
+    let mut loss = 0.0;
+    if n == 0 {
+        let p = params_of(w);
+        loss = batch_total_and_grad(
+            p,
+            align,
+            t_hist,
+            r_hist,
+            seq_len,
+            batch,
+            seq_lens,
+            labels,
+            weights,
+            gw,
+            records,
+            step_grads,
+        );
     }
-    let v = copy_weights(w);
-    let p = runtime_params(&v);
-    let loss = batch_total_and_grad(
-        p,
-        align,
-        t_hist,
-        r_hist,
-        seq_len,
-        batch,
-        seq_lens,
-        labels,
-        weights,
-        gw,
-        records,
-        step_grads,
-    );
-    Loss { refusal: 0, loss }
+    Loss { refusal: n, loss }
 }
 
 // Where histories stand at the start, as in the Rust.
@@ -209,7 +210,7 @@ pub fn card_loss_and_grad(
     labels: &[f32],
     weights: &[f32],
     gw: &mut [f64],
-    records: &mut [f32],
+    records: &mut [StepRecord],
     step_grads: &mut [f64],
 ) -> Loss
     ensures { λ r. ⌜

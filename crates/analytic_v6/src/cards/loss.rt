@@ -11,7 +11,7 @@ use checks::align::weight_at;
 use checks::refusals::card_loss_refusal;
 use checks::tables::cell_of;
 use checks::tables::cut_length;
-use checks::tables::read;
+use checks::view::cell_at;
 use columns::forward_pass::card_forward;
 use columns::last_review::last_loss;
 use domain::weights::copy_weights;
@@ -53,9 +53,9 @@ fn column_loss(
         m,
     );
     let state = run.state;
+    let day = cell_at(t_hist, batch, column, m);
+    let label = cell_at(labels, batch, column, m);
     let k = cell_of(m, batch, column);
-    let day = read(t_hist, k);
-    let label = read(labels, k);
     let weight = weight_at(align, r_hist, weights, k);
     let number = row_from(m, first);
     last_loss(p, number, state.s, day, label, weight, run.loss)

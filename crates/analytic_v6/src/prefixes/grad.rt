@@ -1,62 +1,59 @@
-// The loss with its gradient.
+// The loss with its gradient, over a lent slice of step records.
 ghost use mathlib.Core.Path.{_≡_};
-ghost use Prim.Native.Nat.{_≤_};
 ghost use lib.ListN.{length};
-ghost use Rattle.checks.specs.Sizes.{longestDef};
-ghost use Rattle.columns.specs.Records.{roomDef};
+ghost use Rattle.domain.specs.Doubles.{_+ᵈ_};
+ghost use Rattle.domain.specs.Weights.{_!_};
+ghost use Rattle.checks.specs.Align.{targetWeight};
 ghost use Rattle.checks.specs.Columns.{total, through};
 ghost use Rattle.checks.specs.Batch.{prefixesIn, prefixesOf};
-ghost use Rattle.checks.specs.Tables.{cutAt};
-ghost use Rattle.analytic_v6.specs.Prefixes.{prefixLoss, prefixSlots, prefixRecords, batchLossAndGrad, BatchLeaves};
+ghost use Rattle.columns.specs.LastReview.{targetLoss, targetGrad, targetSlots};
+ghost use Rattle.analytic_v6.specs.Prefixes.{prefixLoss, prefixSteps, batchLossAndGrad, BatchLeaves};
+ghost use Rattle.analytic_v6.specs.inner.Over.{slotsOver};
 use crate::answers::Loss;
+use crate::rows::Rows;
+use crate::rows::params_of;
+use crate::rows::rows_of;
 use checks::align::Align;
-use checks::align::first_review;
 use checks::align::target_weight;
 use checks::refusals::prefix_grad_refusal;
-use checks::tables::cut_length;
 use checks::tables::read;
-use columns::backward_pass::column_backward;
-use columns::forward_pass::prefix_forward_recorded;
+use columns::last_review::Ending;
 use columns::last_review::target_end;
-use columns::records::room;
-use domain::weights::copy_weights;
+use columns::step_records::prefix_backward_steps;
+use columns::step_records::prefix_forward_steps;
 use forward::parameters::RuntimeParams;
-use forward::parameters::runtime_params;
+use forward::state::State;
+use forward::state::StepRecord;
 
-fn column_loss_and_grad(
+// The target behind a column's rows, at the state after them; its loss is added.
+fn target_at(
     p: RuntimeParams,
     align: Align,
-    t_hist: &[f32],
-    r_hist: &[f32],
-    seq_len: u32,
-    batch: u32,
-    seq_lens: &[u32],
+    rows: Rows,
+    q: State,
+    loss: f64,
     delta_ts: &[f32],
     labels: &[f32],
     weights: &[f32],
     column: u32,
     gw: &mut [f64],
-    records: &mut [f32],
-) -> f64
-    requires { ⌜ cutAt (now «seq_lens») «seq_len» column ≤ roomDef (length (now records)) ⌝ }
+) -> Ending
     ensures { λ r. ⌜
-        (let x = prefixesIn align (now («t_hist» .entry)) (now («r_hist» .entry)) «seq_len» batch (now («seq_lens» .entry))
-        (now («delta_ts» .entry)) (now (labels .entry)) (now (weights .entry)) in
-        (r ≡ prefixLoss p x column) ×
-        (now (gw .exit) ≡ prefixSlots p x column (now (gw .entry))) ×
-        (now (records .exit) ≡ prefixRecords p x column (now (records .entry)))) ⌝ }
+        (let day = now («delta_ts» .entry) ! column in
+        let label = now (labels .entry) ! column in
+        let weight = targetWeight align (rows .first) (rows .n) (now (weights .entry) ! column) in
+        (r ≡ record { loss = loss +ᵈ targetLoss p (q .s) day label weight; «g_s» = targetGrad p (q .s) day label weight }) ×
+        (now (gw .exit) ≡ targetSlots p (q .s) day label weight (now (gw .entry)))) ⌝ }
 {
-    let n = cut_length(seq_lens, seq_len, column);
-    let first = first_review(align, r_hist, batch, column, n);
-    let q = prefix_forward_recorded(p, t_hist, r_hist, batch, column, first, n, records);
     let k = column as usize;
     let day = read(delta_ts, k);
     let label = read(labels, k);
-    let weight = target_weight(align, first, n, read(weights, k));
+    let weight = target_weight(align, rows.first, rows.n, read(weights, k));
     let end = target_end(p, q.s, day, label, weight, gw);
-    let unscored = [0.0f64; 1];
-    column_backward(p, records, &unscored, n, end.g_s, gw);
-    end.loss
+    Ending {
+        loss: loss + end.loss,
+        g_s: end.g_s,
+    }
 }
 
 fn batch_total_and_grad(
@@ -71,42 +68,30 @@ fn batch_total_and_grad(
     labels: &[f32],
     weights: &[f32],
     gw: &mut [f64],
-    records: &mut [f32],
+    records: &mut [StepRecord],
 ) -> f64
-    requires { ⌜ longestDef (now «seq_lens») «seq_len» batch ≤ roomDef (length (now records)) ⌝ }
     ensures { λ r. ⌜
         (let x = prefixesIn align (now («t_hist» .entry)) (now («r_hist» .entry)) «seq_len» batch (now («seq_lens» .entry))
         (now («delta_ts» .entry)) (now (labels .entry)) (now (weights .entry)) in
         (r ≡ total (prefixLoss p x) batch) ×
-        (now (gw .exit) ≡ through (prefixSlots p x) batch (now (gw .entry))) ×
-        (now (records .exit) ≡ through (prefixRecords p x) batch (now (records .entry)))) ⌝ }
+        (now (gw .exit) ≡ slotsOver p x batch (now (records .entry)) (now (gw .entry))) ×
+        (now (records .exit) ≡ through (prefixSteps p x) batch (now (records .entry)))) ⌝ }
 {
     let mut loss = 0.0;
     let mut c = 0;
     while c < batch {
-        let part = column_loss_and_grad(
-            p,
-            align,
-            t_hist,
-            r_hist,
-            seq_len,
-            batch,
-            seq_lens,
-            delta_ts,
-            labels,
-            weights,
-            c,
-            gw,
-            records,
-        );
-        loss = loss + part;
+        let rows = rows_of(align, r_hist, seq_len, batch, seq_lens, c);
+        let q = prefix_forward_steps(p, t_hist, r_hist, batch, c, rows.first, rows.n, records);
+        let end = target_at(p, align, rows, q, loss, delta_ts, labels, weights, c, gw);
+        prefix_backward_steps(p, records, rows.n, end.g_s, gw);
+        loss = end.loss;
         c += 1;
     }
     loss
 }
 
 // The same loss, and its gradient added into the 21 slots of `gw`. `records` is lent for the steps of one column at a time:
-// ten singles for each row. A refused call changes neither.
+// one for each row. A refused call changes neither.
 pub fn batch_loss_and_grad_in(
     align: Align,
     w: &[f32],
@@ -119,7 +104,7 @@ pub fn batch_loss_and_grad_in(
     labels: &[f32],
     weights: &[f32],
     gw: &mut [f64],
-    records: &mut [f32],
+    records: &mut [StepRecord],
 ) -> Loss
     ensures { λ r. ⌜
         (let x = prefixesIn align (now («t_hist» .entry)) (now («r_hist» .entry)) «seq_len» batch (now («seq_lens» .entry))
@@ -127,8 +112,6 @@ pub fn batch_loss_and_grad_in(
         (r ≡ batchLossAndGrad (now (w .entry)) x (length (now (gw .entry))) (length (now (records .entry)))) ×
         BatchLeaves (now (w .entry)) x (now (gw .entry)) (now (records .entry)) (now (gw .exit)) (now (records .exit))) ⌝ }
 {
-    let slots = gw.len();
-    let space = room(records);
     let n = prefix_grad_refusal(
         align,
         w,
@@ -140,32 +123,28 @@ pub fn batch_loss_and_grad_in(
         delta_ts,
         labels,
         weights,
-        slots,
-        space,
+        gw.len(),
+        records.len(),
     );
-    if n != 0 {
-        return Loss {
-            refusal: n,
-            loss: 0.0,
-        };
+    let mut loss = 0.0;
+    if n == 0 {
+        let p = params_of(w);
+        loss = batch_total_and_grad(
+            p,
+            align,
+            t_hist,
+            r_hist,
+            seq_len,
+            batch,
+            seq_lens,
+            delta_ts,
+            labels,
+            weights,
+            gw,
+            records,
+        );
     }
-    let v = copy_weights(w);
-    let p = runtime_params(&v);
-    let loss = batch_total_and_grad(
-        p,
-        align,
-        t_hist,
-        r_hist,
-        seq_len,
-        batch,
-        seq_lens,
-        delta_ts,
-        labels,
-        weights,
-        gw,
-        records,
-    );
-    Loss { refusal: 0, loss }
+    Loss { refusal: n, loss }
 }
 
 // Where histories stand at the start, as in the Rust.
@@ -180,7 +159,7 @@ pub fn batch_loss_and_grad(
     labels: &[f32],
     weights: &[f32],
     gw: &mut [f64],
-    records: &mut [f32],
+    records: &mut [StepRecord],
 ) -> Loss
     ensures { λ r. ⌜
         (let x = prefixesOf (now («t_hist» .entry)) (now («r_hist» .entry)) «seq_len» batch (now («seq_lens» .entry))

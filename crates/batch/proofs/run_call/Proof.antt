@@ -22,14 +22,11 @@ same-length-2 c = search needs
 same-length-3 : tie.Need-same-length-3
 same-length-3 c = search needs
 
-same-length-4 : tie.Need-same-length-4
-same-length-4 c = search needs
-
 returns : tie.Need-returns
 unfolding callLoss callSlots
 returns c =
-    let at-run-prefixes = c .before .before .before .before in
-    let at-if1 = at-run-prefixes .before .before .before .before .before in
+    let at-run-prefixes = c .before .before in
+    let at-if1 = at-run-prefixes .before .before .before .before in
     let at-fill-words = at-if1 .before .before .before .before in
     let at-fill-singles = at-fill-words .before .before .before .before in
     let e = at-run-prefixes .run-prefixes .ensures in
@@ -41,26 +38,20 @@ returns c =
 run-cards-requires : tie.Need-run-cards-requires
 run-cards-requires c κs = search needs
 
+same-length-4 : tie.Need-same-length-4
+same-length-4 c = search needs
+
 same-length-5 : tie.Need-same-length-5
 same-length-5 c = search needs
 
 same-length-6 : tie.Need-same-length-6
 same-length-6 c = search needs
 
-same-length-7 : tie.Need-same-length-7
-same-length-7 c = search needs
-
-same-length-8 : tie.Need-same-length-8
-same-length-8 c = search needs
-
-same-length-9 : tie.Need-same-length-9
-same-length-9 c = search needs
-
 returns-2 : tie.Need-returns-2
 unfolding callLoss callSlots
 returns-2 c =
-    let at-run-cards = c .before .before .before .before .before .before in
-    let at-if1 = at-run-cards .before .before .before .before .before .before in
+    let at-run-cards = c .before .before in
+    let at-if1 = at-run-cards .before .before .before .before in
     let at-fill-words = at-if1 .before .before .before .before in
     let at-fill-singles = at-fill-words .before .before .before .before in
     let e = at-run-cards .run-cards .ensures in
@@ -79,12 +70,9 @@ run-call-spec =
     same-length
     same-length-2
     same-length-3
-    same-length-4
     returns
     run-cards-requires
+    same-length-4
     same-length-5
     same-length-6
-    same-length-7
-    same-length-8
-    same-length-9
     returns-2)

@@ -25,22 +25,16 @@ slice-aggregate-run-sections c = search needs
 slice-aggregate-run-sections-2 : tie.Need-slice-aggregate-run-sections-2
 slice-aggregate-run-sections-2 c = search needs
 
-slice-aggregate-run-sections-3 : tie.Need-slice-aggregate-run-sections-3
-slice-aggregate-run-sections-3 c = search needs
-
-slice-aggregate-run-sections-4 : tie.Need-slice-aggregate-run-sections-4
-slice-aggregate-run-sections-4 c = search needs
-
 run-sections-requires : tie.Need-run-sections-requires
 run-sections-requires c κs =
-    let at-if1 = c .before .before .before .before .before in
+    let at-if1 = c .before .before .before in
     let at-header-of = at-if1 .before .before in
     let at-args = at-header-of .before .before .before in
     let file = at-args .args .file .now in
     let e = at-header-of .header-of .ensures in
     let w = accepted-file file (rw e at (at-if1 .if1 .left)) in
     let f = fits-in file w _ (e ∙ accepted-sections file w) in
-    (f .0, search (needs, f), search (needs, f), search needs, search needs)
+    (f .0, search (needs, f), search (needs, f))
 
 same-length : tie.Need-same-length
 same-length c = search needs
@@ -48,8 +42,8 @@ same-length c = search needs
 returns-2 : tie.Need-returns-2
 unfolding fileLoss fileSlots
 returns-2 c =
-    let at-run-sections = c .before .before .before .before .before .before in
-    let at-if1 = at-run-sections .before .before .before .before .before .before in
+    let at-run-sections = c .before .before .before .before in
+    let at-if1 = at-run-sections .before .before .before .before in
     let at-header-of = at-if1 .before .before in
     let at-args = at-header-of .before .before .before in
     let file = at-args .args .file .now in
@@ -67,8 +61,6 @@ run-file-spec =
     returns
     slice-aggregate-run-sections
     slice-aggregate-run-sections-2
-    slice-aggregate-run-sections-3
-    slice-aggregate-run-sections-4
     run-sections-requires
     same-length
     returns-2)

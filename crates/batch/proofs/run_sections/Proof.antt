@@ -36,16 +36,10 @@ same-length-2 c = search needs
 same-length-3 : tie.Need-same-length-3
 same-length-3 c = search needs
 
-same-length-4 : tie.Need-same-length-4
-same-length-4 c = search needs
-
-same-length-5 : tie.Need-same-length-5
-same-length-5 c = search needs
-
 returns : tie.Need-returns
 returns c =
-    let at-run-call = c .before .before .before .before .before .before .before .before .before .before in
-    let at-before = at-run-call .before .before .before .before .before .before .before .before .before .before .before .before in
+    let at-run-call = c .before .before .before .before .before .before in
+    let at-before = at-run-call .before .before .before .before .before .before .before .before in
     let e = at-run-call .run-call .ensures in
     let s = at-before .before in
     let n = part-length (s .args .h .end) (s .args .cells .now) (s .pre .1) in
@@ -67,6 +61,4 @@ run-sections-spec =
     same-length
     same-length-2
     same-length-3
-    same-length-4
-    same-length-5
     returns)

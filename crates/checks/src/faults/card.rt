@@ -14,7 +14,7 @@ use crate::reads::card_row;
 use crate::reads::is_last;
 use crate::tables::cell_of;
 use crate::tables::cut_length;
-use crate::tables::read;
+use crate::view::cell_at;
 
 fn card_rows(
     align: Align,
@@ -35,11 +35,11 @@ fn card_rows(
     let end = is_end(align);
     let mut i = 0;
     while i < n {
+        let day = cell_at(t_hist, batch, column, i);
+        let rating = cell_at(r_hist, batch, column, i);
         let k = cell_of(i, batch, column);
-        let day = read(t_hist, k);
-        let rating = read(r_hist, k);
         let weight = weight_at(align, r_hist, weights, k);
-        let label = read(labels, k);
+        let label = cell_at(labels, batch, column, i);
         let last = is_last(n, i);
         let bad = card_row(end, last, row_from(i, first), day, rating, weight, label);
         if bad != 0 {

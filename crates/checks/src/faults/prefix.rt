@@ -13,18 +13,17 @@ use crate::faults::found::fault_at;
 use crate::faults::found::no_fault;
 use crate::reads::prefix_row;
 use crate::reads::target_row;
-use crate::tables::cell_of;
 use crate::tables::cut_length;
 use crate::tables::read;
+use crate::view::cell_at;
 
 fn prefix_rows(t_hist: &[f32], r_hist: &[f32], batch: u32, column: u32, first: u32, n: u32) -> Fault
     ensures { λ r. ⌜ r ≡ prefixRows (historyOf (now («t_hist» .entry)) (now («r_hist» .entry)) batch column first) column n ⌝ }
 {
     let mut i = 0;
     while i < n {
-        let k = cell_of(i, batch, column);
-        let day = read(t_hist, k);
-        let rating = read(r_hist, k);
+        let day = cell_at(t_hist, batch, column, i);
+        let rating = cell_at(r_hist, batch, column, i);
         let bad = prefix_row(row_from(i, first), day, rating);
         if bad != 0 {
             return Fault {

@@ -10,7 +10,7 @@ use lib.ListN.{getD, length, length-set, set}
 use lib.Seq.{getD-set-same, getD-set-other}
 use Rattle.domain.specs.Weights.{_!_}
 use Rattle.forward.specs.declared.state.StepRecord.{StepRecord}
-use Rattle.columns.specs.Records.{place, roomDef, stepValues, branchValues, putAll, storeDef, loadBranch, loadDef, readBack}
+use Rattle.columns.specs.Records.{Field, STABILITY, DIFFICULTY, DAY, RATING, RETRIEVABILITY, PRE-STABILITY, PRE-DIFFICULTY, BRANCH, BRANCH-RAW, BRANCH-OTHER, columnOf, numberOf, place, roomDef, stepValues, branchValues, putAll, storeDef, loadBranch, loadDef, readBack}
 use Rattle.columns.proofs.records.Apart.{other-row, later-field, inside}
 
 module _ (cells row : ℕ) where
@@ -58,6 +58,20 @@ module _ (row : ℕ) (c : StepRecord) (xs : List Float) (l : row < roomDef (leng
   unfolding storeDef branchValues
   branch-value j h = found (length xs) row l j 7 (branchValues (c .branch)) _ h (omega (arith, h)) (sym (put-length _ row 0 _ xs))
 
+  -- each column holds the number of its name
+  pub field-read : (f : Field) → storeDef row c xs ! place (length xs) (columnOf f) row ≡ numberOf f c
+  unfolding stepValues branchValues
+  field-read STABILITY = value 0 (omega arith)
+  field-read DIFFICULTY = value 1 (omega arith)
+  field-read DAY = value 2 (omega arith)
+  field-read RATING = value 3 (omega arith)
+  field-read RETRIEVABILITY = value 4 (omega arith)
+  field-read PRE-STABILITY = value 5 (omega arith)
+  field-read PRE-DIFFICULTY = value 6 (omega arith)
+  field-read BRANCH = branch-value 0 (omega arith)
+  field-read BRANCH-RAW = branch-value 1 (omega arith)
+  field-read BRANCH-OTHER = branch-value 2 (omega arith)
+
   pub stored-read : loadDef row (storeDef row c xs) ≡ readBack c
   unfolding loadDef loadBranch readBack stepValues branchValues
   stored-read =
@@ -76,7 +90,7 @@ module _ (row : ℕ) (c : StepRecord) (xs : List Float) (l : row < roomDef (leng
       )
 
   module _ (other : ℕ) (h : other < roomDef (length xs)) (d : other ≢ row) where
-    kept : (f : ℕ) → storeDef row c xs ! place (length xs) f other ≡ xs ! place (length xs) f other
+    pub kept : (f : ℕ) → storeDef row c xs ! place (length xs) f other ≡ xs ! place (length xs) f other
     unfolding storeDef
     kept f =
         elsewhere (length xs) row (place (length xs) f other) 7 _ _ (λ g k. other-row (length xs) row l f g other h d) ∙

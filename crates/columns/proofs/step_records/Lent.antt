@@ -1,6 +1,7 @@
--- A `&mut [T]` that is lent again for the lifetime of a call, and comes back at the callee's last list; nothing of it is this crate's.
+-- A `&mut [T]` that is lent again for the lifetime of a call, and comes back: at the callee's last list, or, where it is lent as a
+-- `&[T]`, as it was. Nothing of it is this crate's.
 -- Assumes `Given`, which is what the kit's proofs by hand take for granted.
-use mathlib.Core.Path.{_≡_, sym, ap, subst}
+use mathlib.Core.Path.{_≡_, refl, sym, ap, subst}
 use Prim.Native.Nat.{ℕ}
 use mathlib.Core.List.{List, [], _∷_}
 use lib.ListN.{length}
@@ -12,14 +13,17 @@ use base.Logic.{ent, sep, ex}
 use base.Fml.{Lft, GName, Share, Fml, fsep, flft, fdead, fobs, fauth, flent, fobor}
 use prog.Wp.{Heap}
 use ghost.Atoms.{Atoms, sem}
-use types.Kit.{Given, ‵, _⊛_, some, later, _$_, _∵_, !, qed, move, use1, use3, drop, split, pick, fsplit, fjoin, frame, await, updating, now as at-once, show, done}
+use types.Kit.{Given, ‵, _⊛_, some, later, _$_, _∵_, !, qed, move, use1, use2, use3, drop, split, pick, fsplit, fjoin, feqI, frame, await, updating, now as at-once, show, done}
 use types.SemTy.{cells, Arr}
 use denote.RattleType.{RattleType}
 use denote.Shadow.{pureL, pureI}
 use denote.Memory.{mem}
 use denote.Ref.{RefT}
-use denote.Slice.{sliceVal, MutSlice, heres, Room, finally, at-slice, codedHoleys}
+use denote.Slice.{sliceVal, MutSlice, ShrSlice, heres, Room, finally, at-slice, codedHoleys}
 use denote.Lend.{Held, lends-slice, slice-back}
+use borrow.Rule.Array.Rows.{partsF}
+use borrow.Rule.Array.Share.{share-cells, shared-back}
+use borrow.Table.Owned.{ShrSlice as SharedSlice}
 use denote.Index.{row, whole-out, whole-in, opens-slice, closes-slice}
 
 module _ (R : RattleType) (κ κ′ : Lft) (q : Share) (γ : GName) (b o : ℕ) where
@@ -28,6 +32,9 @@ module _ (R : RattleType) (κ κ′ : Lft) (q : Share) (γ : GName) (b o : ℕ) 
 
   abbrev pub LentAgain : GName → List (R .Denot) → Fml
   LentAgain γ₁ ys = fsep (flent κ′ (Held R (length ys) b o γ₁)) (fsep (fobor κ q (Held R (length ys) b o γ)) (fsep (fobs γ (codedHoleys R .code (heres R ys))) (fauth γ (codedHoleys R .code (heres R ys)))))
+
+  abbrev pub SharedAgain : List (R .Denot) → Fml
+  SharedAgain ys = fsep (flent κ′ (partsF R ys b o)) (fsep (fobor κ q (Held R (length ys) b o γ)) (fsep (fobs γ (codedHoleys R .code (heres R ys))) (fauth γ (codedHoleys R .code (heres R ys)))))
 
   module _ {M : Type 1} (𝓤 : URA M) (H : Heap 𝓤) (A : Atoms 𝓤) (W : Given 𝓤 H A) (ℓ ℓ′ : Lifetime) (ys : List (R .Denot)) where
     abbrev vals : List Val
@@ -50,3 +57,21 @@ module _ (R : RattleType) (κ κ′ : Lft) (q : Share) (γ : GName) (b o : ℕ) 
         use3 W (later (‵ (Arr (mem R) (length ys) .lies zs b o))) (slice-back 𝓤 H A W R κ′ γ₁ zs (length ys) b o) $ await ! tt $ fsplit ! $ drop ! $ use1 W (‵ (row R fullShare zs b o)) (whole-out 𝓤 H A W R zs b o) $
         move ! (1 ∷ []) $ fsplit ! $ move ! (1 ∷ []) $ fsplit ! $ move ! (3 ∷ 2 ∷ 0 ∷ 1 ∷ []) $ closes-slice ! tt R ys zs e b o $ at-once ! $
         fjoin ! $ pureI ! (at-slice R (at-list γ zs) vals) (tt, (tt, tt)) (ap (λ (m : ℕ). sliceVal (b, o) m ∷ []) (sym e), subst (Room R) (sym e) room) $ fjoin ! $ done !
+
+    pub shares-again : ent 𝓤 (sep 𝓤 (sem 𝓤 H A (MutSlice ℓ κ R .own (at-list γ ys) vals)) (A .lft κ q))
+        (H .⇛ (ex 𝓤 (λ (γ₁ : GName). sep 𝓤 (sem 𝓤 H A (ShrSlice ℓ′ κ′ R .own (at-list γ₁ ys) vals)) (sem 𝓤 H A (SharedAgain ys)))))
+    shares-again =
+        qed W (‵ (MutSlice ℓ κ R .own (at-list γ ys) vals) ∷ ‵ (flft κ q) ∷ []) ∵ updating ! $ fsplit ! $ pureL ! (at-slice R (at-list γ ys) vals) (λ p. fsplit ! $ opens-slice ! tt R ys b o $
+        use1 W (‵ (cells (mem R) ys b o)) (whole-in 𝓤 H A W R ys b o) $
+        use1 W (later (some (λ (γ₁ : GName). ‵ (SharedSlice ℓ′ κ′ R .own (at-list γ₁ ys)) ⊛ ‵ (flent κ′ (partsF R ys b o))))) (share-cells 𝓤 H A W R κ′ b ys o (p .1)) $ await ! tt $ pick ! (λ γ₁. split ! $
+        -- [the new slice; the lender's part at κ′; the open borrow at κ; obs γ; auth γ]
+        fsplit ! $ feqI ! (List Val) vals vals refl $ fjoin ! $ fjoin ! $
+        at-once ! $ show ! (λ (γ′ : GName). sep 𝓤 (sem 𝓤 H A (ShrSlice ℓ′ κ′ R .own (at-list γ′ ys) vals)) (sem 𝓤 H A (SharedAgain ys))) γ₁ $ frame ! $
+        move ! (2 ∷ 3 ∷ []) $ fjoin ! $ move ! (2 ∷ 0 ∷ []) $ fjoin ! $ move ! (1 ∷ 0 ∷ []) $ fjoin ! $ done !))
+
+    pub shared-comes-back : Room R (length ys) → ent 𝓤 (sep 𝓤 (A .dead κ′) (sem 𝓤 H A (SharedAgain ys))) (H .⇛ (sep 𝓤 (sem 𝓤 H A (MutSlice ℓ κ R .own (at-list γ ys) vals)) (A .lft κ q)))
+    shared-comes-back room =
+        qed W (‵ (fdead κ′) ∷ ‵ (SharedAgain ys) ∷ []) ∵ updating ! $ move ! (1 ∷ []) $ fsplit ! $ move ! (2 ∷ 0 ∷ []) $
+        use2 W (later (‵ (cells (mem R) ys b o))) (shared-back 𝓤 H A W R κ′ b ys o) $ await ! tt $ use1 W (‵ (row R fullShare ys b o)) (whole-out 𝓤 H A W R ys b o) $
+        move ! (1 ∷ []) $ fsplit ! $ move ! (1 ∷ []) $ fsplit ! $ move ! (3 ∷ 2 ∷ 0 ∷ 1 ∷ []) $ closes-slice ! tt R ys ys refl b o $ at-once ! $
+        fjoin ! $ pureI ! (at-slice R (at-list γ ys) vals) (tt, (tt, tt)) (refl, room) $ fjoin ! $ done !

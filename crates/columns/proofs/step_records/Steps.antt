@@ -3,7 +3,7 @@ use Prim.Native.Nat.{ℕ, zero, suc, _≤_, _<_}
 use mathlib.Core.Bool.{Bool, true, false}
 use mathlib.Core.List.{List}
 use mathlib.Core.Path.{_≡_, refl, sym, _∙_, ap, subst}
-use native.Mathlib.Nat.{le-of-lt, ne-of-lt, not-suc-le-zero}
+use native.Mathlib.Nat.{le-of-lt, ne-of-gt, ne-of-lt, not-suc-le-zero}
 use native.Mathlib.Omega.{arith}
 use borrow.Author.Tests.{leb-true, leb-false}
 use lib.Dec.{leb}
@@ -15,7 +15,8 @@ use Rattle.forward.specs.declared.parameters.RuntimeParams.{RuntimeParams}
 use Rattle.forward.specs.declared.state.StepRecord.{StepRecord}
 use Rattle.forward.specs.declared.state.Stepped.{Stepped}
 use Rattle.columns.specs.ForwardPass.{stateAt, recordAt, scoreAt, lossAt, runAt, gradsDef}
-use Rattle.columns.specs.StepRecords.{noStep, nextDef, stepsDef, scoreFrom, cardNext}
+use Rattle.columns.specs.StepRecords.{noStep, stepsDef}
+use Rattle.columns.specs.inner.Next.{nextDef, scoreFrom, cardNext}
 use Rattle.columns.specs.declared.step_records.Scored.{Scored}
 
 module _ (p : RuntimeParams) (hist : History) where
@@ -55,6 +56,12 @@ module _ (p : RuntimeParams) (hist : History) where
   unfolding stepsDef
   steps-read zero i xs l h = absurd (not-suc-le-zero h)
   steps-read (suc n) i xs l h = steps-turn n i xs l h (steps-read n i xs (le-of-lt l)) (leb n i) refl
+
+  -- the rows behind are kept
+  pub steps-kept : (n i : ℕ) (xs : List StepRecord) → n ≤ i → getD (stepsDef p hist n xs) i noStep ≡ getD xs i noStep
+  unfolding stepsDef
+  steps-kept zero i xs l = refl
+  steps-kept (suc n) i xs l = getD-set-other (stepsDef p hist n xs) n i _ noStep (ne-of-gt l) ∙ steps-kept n i xs (le-of-lt l)
 
   module _ (label weight : ℕ → Float) where
     pub run-next : (i : ℕ) (r : Scored) → r ≡ cardNext p hist label weight i (runAt p hist label weight i) → r .run ≡ runAt p hist label weight (suc i)

@@ -20,7 +20,6 @@ use Rattle.checks.specs.declared.align.Align.{Align}
 use Rattle.checks.specs.declared.fault.Fault.{Fault}
 use Rattle.checks.specs.Refusals.{lossRefusal, gradRefusal, longestOf, cardsSized, cardLossRefusal, cardGradRefusal}
 use Rattle.checks.proofs.Orders.{grad-accepted}
-use Rattle.columns.specs.Records.{roomDef}
 use Rattle.analytic_v6.specs.Cards.{cardLoss, cardSlots, cardsLossAndGrad, cardsSlots, cardsLoss}
 use Rattle.laws.proofs.Agreement.Card.{last-inside, card-record-same, inside, rating-read, day-read, RowAt, CardCells, card-fault-same, card-loss-same, card-slots-same, card-keeps}
 use Rattle.laws.proofs.Agreement.Faults.{faults-same}
@@ -160,7 +159,7 @@ module _ (x y : Cards) (same : SameInputs cards x y) where
 refusals : (c d : Call Cards) → Alike cards c d → cards .refusal c ≡ cards .refusal d
 refusals c d h =
     grad-refusal (c .x) (d .x) (h .inputs) (c .w) (d .w) (h .weights .boxed .0) (h .weights .boxed .1) (length (c .gw)) _ _ _ _ (h .room .0) (h .room .1) ∙
-    ap (λ (gw : List Float). cardGradRefusal (d .w) (d .x) (length gw) (roomDef (d .records)) (d .step-grads)) (h .gradients)
+    ap (λ (gw : List Float). cardGradRefusal (d .w) (d .x) (length gw) (d .records) (d .step-grads)) (h .gradients)
 
 passed : (c : Call Cards) → cards .refusal c ≡ 0 → (weightsRefusal (c .w) ≡ 0) × (cards .room c ≡ true)
 unfolding cardGradRefusal

@@ -18,7 +18,6 @@ use Rattle.checks.specs.declared.fault.Fault.{Fault}
 use Rattle.checks.specs.Refusals.{lossRefusal, gradRefusal, longestOf, prefixesSized, prefixLossRefusal, prefixGradRefusal}
 use Rattle.checks.proofs.Orders.{grad-accepted}
 use Rattle.forward.proofs.Agreement.{by-cases}
-use Rattle.columns.specs.Records.{roomDef}
 use Rattle.analytic_v6.specs.Prefixes.{prefixLoss, prefixSlots, batchLossAndGrad, batchSlots, batchLoss}
 use Rattle.laws.proofs.Agreement.Faults.{faults-same}
 use Rattle.laws.proofs.Agreement.Prefix.{PrefixCells, prefix-record-same, prefix-fault-same, prefix-loss-same, prefix-slots-same, prefix-keeps}
@@ -145,7 +144,7 @@ module _ (x y : Prefixes) (same : SameInputs prefixes x y) where
 refusals : (c d : Call Prefixes) → Alike prefixes c d → prefixes .refusal c ≡ prefixes .refusal d
 refusals c d h =
     grad-refusal (c .x) (d .x) (h .inputs) (c .w) (d .w) (h .weights .boxed .0) (h .weights .boxed .1) (length (c .gw)) _ _ (h .room .0) (h .room .1) ∙
-    ap (λ (gw : List Float). prefixGradRefusal (d .w) (d .x) (length gw) (roomDef (d .records))) (h .gradients)
+    ap (λ (gw : List Float). prefixGradRefusal (d .w) (d .x) (length gw) (d .records)) (h .gradients)
 
 passed : (c : Call Prefixes) → prefixes .refusal c ≡ 0 → (weightsRefusal (c .w) ≡ 0) × (prefixes .room c ≡ true)
 unfolding prefixGradRefusal

@@ -6,12 +6,12 @@ use crate::slices::length_at;
 use crate::slices::set_lengths;
 use crate::slices::set_singles;
 use analytic_v6::answers::Loss;
-use analytic_v6::cards::grad::card_loss_and_grad;
-use analytic_v6::cards::grad::card_loss_and_grad_in;
+use analytic_v6::cards::grad_columns::card_loss_and_grad_columns;
+use analytic_v6::cards::grad_columns::card_loss_and_grad_columns_in;
 use analytic_v6::cards::loss::card_loss;
 use analytic_v6::cards::loss::card_loss_in;
-use analytic_v6::prefixes::grad::batch_loss_and_grad;
-use analytic_v6::prefixes::grad::batch_loss_and_grad_in;
+use analytic_v6::prefixes::grad_columns::batch_loss_and_grad_columns;
+use analytic_v6::prefixes::grad_columns::batch_loss_and_grad_columns_in;
 use analytic_v6::prefixes::loss::batch_loss;
 use analytic_v6::prefixes::loss::batch_loss_in;
 use checks::align::Align;
@@ -50,7 +50,7 @@ fn entry_at_end(
     grads: &mut [f64],
 ) -> Loss {
     match letter {
-        b'4' => batch_loss_and_grad_in(
+        b'4' => batch_loss_and_grad_columns_in(
             Align::End,
             w,
             days,
@@ -76,7 +76,7 @@ fn entry_at_end(
             labels,
             weights,
         ),
-        b'6' => card_loss_and_grad_in(
+        b'6' => card_loss_and_grad_columns_in(
             Align::End,
             w,
             days,
@@ -120,7 +120,7 @@ fn entry(
     grads: &mut [f64],
 ) -> Loss {
     match letter {
-        b'0' => batch_loss_and_grad(
+        b'0' => batch_loss_and_grad_columns(
             w,
             days,
             ratings,
@@ -144,7 +144,7 @@ fn entry(
             labels,
             weights,
         ),
-        b'2' => card_loss_and_grad(
+        b'2' => card_loss_and_grad_columns(
             w,
             days,
             ratings,

@@ -7,13 +7,13 @@ use Rattle.analytic_v6.proofs.step.training_step.Tie as tie
 step-refusal-requires : tie.Need-step-refusal-requires
 step-refusal-requires c κs = search needs
 
-blank-record-requires : tie.Need-blank-record-requires
-blank-record-requires c κs = search needs
+no-step-requires : tie.Need-no-step-requires
+no-step-requires c κs = search needs
 
 returns : tie.Need-returns
 unfolding noState
 returns c =
-    rw (c .blank-record .ensures) (step-refused _ _ _ _ _ _ (c .before .before .step-refusal .ensures) (c .before .if1 .taken))
+    rw (c .no-step .ensures) (step-refused _ _ _ _ _ _ (c .before .before .step-refusal .ensures) (c .before .if1 .taken))
 
 copy-weights-requires : tie.Need-copy-weights-requires
 copy-weights-requires c κs = search needs
@@ -41,7 +41,7 @@ training-step-spec =
     tie.close
     (tie.spec
     step-refusal-requires
-    blank-record-requires
+    no-step-requires
     returns
     copy-weights-requires
     runtime-params-requires

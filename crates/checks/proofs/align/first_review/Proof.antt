@@ -24,11 +24,8 @@ returns c = sym (at-start _ _ _ (sym (c .before .is-end .ensures) ∙ not-true _
 loop-holds : tie.Need-loop-holds Inv-loop μ-loop
 loop-holds c = (search needs, none-found _)
 
-cell-of-requires : tie.Need-cell-of-requires Inv-loop μ-loop
-cell-of-requires c κs = search needs
-
-read-requires : tie.Need-read-requires Inv-loop μ-loop
-read-requires c κs = search needs
+cell-at-requires : tie.Need-cell-at-requires Inv-loop μ-loop
+cell-at-requires c κs = search needs
 
 is-nonzero-requires : tie.Need-is-nonzero-requires Inv-loop μ-loop
 is-nonzero-requires c κs = search needs
@@ -36,13 +33,12 @@ is-nonzero-requires c κs = search needs
 returns-2 : tie.Need-returns-2 Inv-loop μ-loop
 returns-2 c =
     let at-is-nonzero = c .before in
-    let at-read = at-is-nonzero .before in
-    let at-cell-of = at-read .before in
-    let at-loop-test = at-cell-of .before in
+    let at-cell-at = at-is-nonzero .before in
+    let at-loop-test = at-cell-at .before in
     let at-loop = at-loop-test .before in
     let at-if1 = at-loop .before in
     let l = at-loop .loop in
-    let here = sym (rw (at-read .read .ensures, at-cell-of .cell-of .ensures) at (at-is-nonzero .is-nonzero .ensures)) ∙ c .if2 .taken in
+    let here = sym (rw (at-cell-at .cell-at .ensures) at (at-is-nonzero .is-nonzero .ensures)) ∙ c .if2 .taken in
     sym (at-end _ _ _ (sym (at-if1 .before .is-end .ensures) ∙ not-false _ (at-if1 .if1 .left)) ∙ found-at _ (l .i) _ (at-loop-test .loop-test .taken) (l .inv .1) here)
 
 add-i : tie.Need-add-i Inv-loop μ-loop
@@ -54,11 +50,10 @@ loop-less c = search needs
 loop-again : tie.Need-loop-again Inv-loop μ-loop
 loop-again c =
     let at-is-nonzero = c .before in
-    let at-read = at-is-nonzero .before in
-    let at-cell-of = at-read .before in
-    let at-loop = at-cell-of .before .before in
+    let at-cell-at = at-is-nonzero .before in
+    let at-loop = at-cell-at .before .before in
     let l = at-loop .loop in
-    let here = sym (rw (at-read .read .ensures, at-cell-of .cell-of .ensures) at (at-is-nonzero .is-nonzero .ensures)) ∙ c .if2 .left in
+    let here = sym (rw (at-cell-at .cell-at .ensures) at (at-is-nonzero .is-nonzero .ensures)) ∙ c .if2 .left in
     (search needs, none-more _ (l .i) (l .inv .1) here)
 
 returns-3 : tie.Need-returns-3 Inv-loop μ-loop
@@ -79,8 +74,7 @@ first-review-spec =
     is-end-requires
     returns
     loop-holds
-    cell-of-requires
-    read-requires
+    cell-at-requires
     is-nonzero-requires
     returns-2
     add-i

@@ -19,14 +19,11 @@ loop-holds : tie.Need-loop-holds Inv-loop μ-loop
 unfolding stateAt noState
 loop-holds c = (search needs, refl)
 
-cell-of-requires : tie.Need-cell-of-requires Inv-loop μ-loop
-cell-of-requires c κs = search needs
+cell-at-requires : tie.Need-cell-at-requires Inv-loop μ-loop
+cell-at-requires c κs = search needs
 
-read-requires : tie.Need-read-requires Inv-loop μ-loop
-read-requires c κs = search needs
-
-read-requires-2 : tie.Need-read-requires-2 Inv-loop μ-loop
-read-requires-2 c κs = search needs
+cell-at-requires-2 : tie.Need-cell-at-requires-2 Inv-loop μ-loop
+cell-at-requires-2 c κs = search needs
 
 row-from-requires : tie.Need-row-from-requires Inv-loop μ-loop
 row-from-requires c κs = search needs
@@ -50,12 +47,11 @@ loop-again : tie.Need-loop-again Inv-loop μ-loop
 loop-again c =
     let at-step-forward = c .before in
     let at-row-from = at-step-forward .before in
-    let at-read2 = at-row-from .before in
-    let at-read = at-read2 .before in
-    let at-cell-of = at-read .before in
-    let at-loop = at-cell-of .before .before in
+    let at-cell-at2 = at-row-from .before in
+    let at-cell-at = at-cell-at2 .before in
+    let at-loop = at-cell-at .before .before in
     let l = at-loop .loop in
-    (search needs, next-state _ _ (l .i) (l .q) (at-step-forward .step-forward .result) _ (l .inv .1) (rw (at-step-forward .step-forward .ensures, at-row-from .row-from .ensures, at-read2 .read2 .ensures, at-read .read .ensures, at-cell-of .cell-of .ensures)) (c .carried .ensures))
+    (search needs, next-state _ _ (l .i) (l .q) (at-step-forward .step-forward .result) _ (l .inv .1) (rw (at-step-forward .step-forward .ensures, at-row-from .row-from .ensures, at-cell-at2 .cell-at2 .ensures, at-cell-at .cell-at .ensures)) (c .carried .ensures))
 
 returns : tie.Need-returns Inv-loop μ-loop
 returns c =
@@ -71,9 +67,8 @@ prefix-forward-spec =
     Inv-loop
     μ-loop
     loop-holds
-    cell-of-requires
-    read-requires
-    read-requires-2
+    cell-at-requires
+    cell-at-requires-2
     row-from-requires
     cast-step-forward
     step-forward-requires

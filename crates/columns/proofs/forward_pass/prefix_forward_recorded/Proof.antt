@@ -21,14 +21,11 @@ loop-holds : tie.Need-loop-holds Inv-loop μ-loop
 unfolding stateAt noState storedDef
 loop-holds c = (search needs, search needs, refl, refl, refl)
 
-cell-of-requires : tie.Need-cell-of-requires Inv-loop μ-loop
-cell-of-requires c κs = search needs
+cell-at-requires : tie.Need-cell-at-requires Inv-loop μ-loop
+cell-at-requires c κs = search needs
 
-read-requires : tie.Need-read-requires Inv-loop μ-loop
-read-requires c κs = search needs
-
-read-requires-2 : tie.Need-read-requires-2 Inv-loop μ-loop
-read-requires-2 c κs = search needs
+cell-at-requires-2 : tie.Need-cell-at-requires-2 Inv-loop μ-loop
+cell-at-requires-2 c κs = search needs
 
 row-from-requires : tie.Need-row-from-requires Inv-loop μ-loop
 row-from-requires c κs = search needs
@@ -47,7 +44,7 @@ carried-requires c κs = search needs
 
 add-i : tie.Need-add-i Inv-loop μ-loop
 add-i c =
-    let at-loop-test = c .before .before .before .before .before .before .before .before .before .before .before in
+    let at-loop-test = c .before .before .before .before .before .before .before .before .before .before in
     let at-loop = at-loop-test .before in
     record { fits = omega (arith, at-loop-test .loop-test .taken, at-loop .loop .inv .1) }
 
@@ -59,17 +56,16 @@ loop-again c =
     let at-store-step = c .before .before .before in
     let at-step-forward = at-store-step .before .before .before in
     let at-row-from = at-step-forward .before in
-    let at-read2 = at-row-from .before in
-    let at-read = at-read2 .before in
-    let at-cell-of = at-read .before in
-    let at-loop = at-cell-of .before .before in
+    let at-cell-at2 = at-row-from .before in
+    let at-cell-at = at-cell-at2 .before in
+    let at-loop = at-cell-at .before .before in
     let l = at-loop .loop in
     let r = at-step-forward .step-forward .result in (
       search needs,
       l .inv .1,
       search needs,
-      next-state _ _ (l .i) (l .q) r _ (l .inv .3) (rw (at-step-forward .step-forward .ensures, at-row-from .row-from .ensures, at-read2 .read2 .ensures, at-read .read .ensures, at-cell-of .cell-of .ensures)) (c .carried .ensures),
-      at-store-step .store-step .ensures ∙ next-stored _ _ (l .i) _ _ _ (l .inv .4) (next-record _ _ (l .i) (l .q) r (l .inv .3) (rw (at-step-forward .step-forward .ensures, at-row-from .row-from .ensures, at-read2 .read2 .ensures, at-read .read .ensures, at-cell-of .cell-of .ensures))),
+      next-state _ _ (l .i) (l .q) r _ (l .inv .3) (rw (at-step-forward .step-forward .ensures, at-row-from .row-from .ensures, at-cell-at2 .cell-at2 .ensures, at-cell-at .cell-at .ensures)) (c .carried .ensures),
+      at-store-step .store-step .ensures ∙ next-stored _ _ (l .i) _ _ _ (l .inv .4) (next-record _ _ (l .i) (l .q) r (l .inv .3) (rw (at-step-forward .step-forward .ensures, at-row-from .row-from .ensures, at-cell-at2 .cell-at2 .ensures, at-cell-at .cell-at .ensures))),
     )
 
 same-length : tie.Need-same-length Inv-loop μ-loop
@@ -89,9 +85,8 @@ prefix-forward-recorded-spec =
     Inv-loop
     μ-loop
     loop-holds
-    cell-of-requires
-    read-requires
-    read-requires-2
+    cell-at-requires
+    cell-at-requires-2
     row-from-requires
     cast-step-forward
     step-forward-requires

@@ -58,7 +58,8 @@ use Rattle.forward.proofs.state.State as S
 use Rattle.forward.proofs.state.State.Laws as S′
 use Rattle.forward.proofs.state.StepRecord as T
 use Rattle.columns.specs.ForwardPass.{stateAt, lossAt, runAt, gradsDef}
-use Rattle.columns.specs.StepRecords.{stepsDef, scoreFrom, cardNext}
+use Rattle.columns.specs.StepRecords.{stepsDef}
+use Rattle.columns.specs.inner.Next.{scoreFrom, cardNext}
 use Rattle.columns.specs.declared.forward_pass.Run.{Run}
 use Rattle.columns.specs.declared.step_records.Scored.{Scored}
 use Rattle.columns.proofs.Kept.{grads-length}

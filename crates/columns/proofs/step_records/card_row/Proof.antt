@@ -1,14 +1,20 @@
 use borrow.Author.Needs.{needs}
 use Rattle.columns.specs.ForwardPass.{stepAt}
-use Rattle.columns.specs.StepRecords.{nextDef, scoreFrom, cardNext}
+use Rattle.columns.specs.inner.Next.{nextDef, scoreFrom, cardNext}
 use Rattle.columns.proofs.step_records.card_row.Statement.{statement}
 use Rattle.columns.proofs.step_records.card_row.Tie as tie
 
+cell-at-requires : tie.Need-cell-at-requires
+cell-at-requires c κs = search needs
+
+cell-at-requires-2 : tie.Need-cell-at-requires-2
+cell-at-requires-2 c κs = search needs
+
+cell-at-requires-3 : tie.Need-cell-at-requires-3
+cell-at-requires-3 c κs = search needs
+
 cell-of-requires : tie.Need-cell-of-requires
 cell-of-requires c κs = search needs
-
-read-requires : tie.Need-read-requires
-read-requires c κs = search needs
 
 weight-at-requires : tie.Need-weight-at-requires
 weight-at-requires c κs = search needs
@@ -16,17 +22,11 @@ weight-at-requires c κs = search needs
 row-from-requires : tie.Need-row-from-requires
 row-from-requires c κs = search needs
 
-read-requires-2 : tie.Need-read-requires-2
-read-requires-2 c κs = search needs
-
 cast-step-forward : tie.Need-cast-step-forward
 cast-step-forward c = search needs
 
 step-forward-requires : tie.Need-step-forward-requires
 step-forward-requires c κs = search needs
-
-read-requires-3 : tie.Need-read-requires-3
-read-requires-3 c κs = search needs
 
 row-score-requires : tie.Need-row-score-requires
 row-score-requires c κs = search needs
@@ -46,29 +46,29 @@ returns c =
     let at-carried = c .before .before in
     let at-write-f64 = at-carried .before .before .before in
     let at-row-score = at-write-f64 .before .before in
-    let at-read3 = at-row-score .before in
-    let at-step-forward = at-read3 .before .before in
-    let at-read2 = at-step-forward .before in
-    let at-row-from = at-read2 .before .before in
+    let at-step-forward = at-row-score .before .before in
+    let at-row-from = at-step-forward .before .before in
     let at-weight-at = at-row-from .before in
-    let at-read = at-weight-at .before in
-    let at-cell-of = at-read .before in (
-      rw (at-carried .carried .ensures, at-row-score .row-score .ensures, at-read3 .read3 .ensures, at-step-forward .step-forward .ensures, at-read2 .read2 .ensures, at-row-from .row-from .ensures, at-weight-at .weight-at .ensures, at-read .read .ensures, at-cell-of .cell-of .ensures),
-      rw (at-write-f64 .write-f64 .ensures, at-row-score .row-score .ensures, at-read3 .read3 .ensures, at-step-forward .step-forward .ensures, at-read2 .read2 .ensures, at-row-from .row-from .ensures, at-weight-at .weight-at .ensures, at-read .read .ensures, at-cell-of .cell-of .ensures),
+    let at-cell-of = at-weight-at .before in
+    let at-cell-at3 = at-cell-of .before in
+    let at-cell-at2 = at-cell-at3 .before in
+    let at-cell-at = at-cell-at2 .before in (
+      rw (at-carried .carried .ensures, at-row-score .row-score .ensures, at-step-forward .step-forward .ensures, at-row-from .row-from .ensures, at-weight-at .weight-at .ensures, at-cell-of .cell-of .ensures, at-cell-at3 .cell-at3 .ensures, at-cell-at2 .cell-at2 .ensures, at-cell-at .cell-at .ensures),
+      rw (at-write-f64 .write-f64 .ensures, at-row-score .row-score .ensures, at-step-forward .step-forward .ensures, at-row-from .row-from .ensures, at-weight-at .weight-at .ensures, at-cell-of .cell-of .ensures, at-cell-at3 .cell-at3 .ensures, at-cell-at2 .cell-at2 .ensures, at-cell-at .cell-at .ensures),
     )
 
 pub card-row-spec : {M : Type 1} → statement M
 card-row-spec =
     tie.close
     (tie.spec
+    cell-at-requires
+    cell-at-requires-2
+    cell-at-requires-3
     cell-of-requires
-    read-requires
     weight-at-requires
     row-from-requires
-    read-requires-2
     cast-step-forward
     step-forward-requires
-    read-requires-3
     row-score-requires
     write-f64-requires
     carried-requires

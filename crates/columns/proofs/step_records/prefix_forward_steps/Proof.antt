@@ -57,7 +57,8 @@ use Rattle.forward.proofs.state.StepRecord as T
 use Rattle.forward.proofs.state.Stepped as O
 use Rattle.forward.proofs.state.Stepped.Laws as O′
 use Rattle.columns.specs.ForwardPass.{stateAt}
-use Rattle.columns.specs.StepRecords.{nextDef, stepsDef}
+use Rattle.columns.specs.StepRecords.{stepsDef}
+use Rattle.columns.specs.inner.Next.{nextDef}
 use Rattle.columns.proofs.step_records.Steps.{state-next, steps-none, record-next, steps-next, steps-length}
 use Rattle.columns.proofs.step_records.Walk.{holds, fails, one-more, params-val, state-val, none-val, none-is, counts, Store, records-at, records-val, stores}
 use Rattle.columns.proofs.step_records.prefix_row as row

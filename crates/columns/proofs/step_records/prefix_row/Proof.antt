@@ -1,17 +1,14 @@
 use borrow.Author.Needs.{needs}
 use Rattle.columns.specs.ForwardPass.{stepAt}
-use Rattle.columns.specs.StepRecords.{nextDef}
+use Rattle.columns.specs.inner.Next.{nextDef}
 use Rattle.columns.proofs.step_records.prefix_row.Statement.{statement}
 use Rattle.columns.proofs.step_records.prefix_row.Tie as tie
 
-cell-of-requires : tie.Need-cell-of-requires
-cell-of-requires c κs = search needs
+cell-at-requires : tie.Need-cell-at-requires
+cell-at-requires c κs = search needs
 
-read-requires : tie.Need-read-requires
-read-requires c κs = search needs
-
-read-requires-2 : tie.Need-read-requires-2
-read-requires-2 c κs = search needs
+cell-at-requires-2 : tie.Need-cell-at-requires-2
+cell-at-requires-2 c κs = search needs
 
 row-from-requires : tie.Need-row-from-requires
 row-from-requires c κs = search needs
@@ -31,11 +28,10 @@ returns c =
     let at-carried = c .before in
     let at-step-forward = at-carried .before in
     let at-row-from = at-step-forward .before in
-    let at-read2 = at-row-from .before in
-    let at-read = at-read2 .before in
-    let at-cell-of = at-read .before in
-    rw (at-carried .carried .ensures, at-step-forward .step-forward .ensures, at-row-from .row-from .ensures, at-read2 .read2 .ensures, at-read .read .ensures, at-cell-of .cell-of .ensures)
+    let at-cell-at2 = at-row-from .before in
+    let at-cell-at = at-cell-at2 .before in
+    rw (at-carried .carried .ensures, at-step-forward .step-forward .ensures, at-row-from .row-from .ensures, at-cell-at2 .cell-at2 .ensures, at-cell-at .cell-at .ensures)
 
 pub prefix-row-spec : {M : Type 1} → statement M
 prefix-row-spec =
-    tie.close (tie.spec cell-of-requires read-requires read-requires-2 row-from-requires cast-step-forward step-forward-requires carried-requires returns)
+    tie.close (tie.spec cell-at-requires cell-at-requires-2 row-from-requires cast-step-forward step-forward-requires carried-requires returns)

@@ -6,8 +6,8 @@ use Rattle.fsrs6.proofs.cards.fsrs_card_loss_and_grad_in.Tie as tie
 align-of-requires : tie.Need-align-of-requires
 align-of-requires c κs = search needs
 
-card-loss-and-grad-in-requires : tie.Need-card-loss-and-grad-in-requires
-card-loss-and-grad-in-requires c κs = search needs
+card-loss-and-grad-columns-in-requires : tie.Need-card-loss-and-grad-columns-in-requires
+card-loss-and-grad-columns-in-requires c κs = search needs
 
 put-f64-requires : tie.Need-put-f64-requires
 put-f64-requires c κs = search needs
@@ -25,7 +25,7 @@ returns : tie.Need-returns
 returns c =
     let at-call = c .before .before .before .before .before .before .before .before in
     let at-align-of = at-call .before .before .before .before in
-    let e = at-call .card-loss-and-grad-in .ensures in
+    let e = at-call .card-loss-and-grad-columns-in .ensures in
     rw (← at-align-of .align-of .ensures) ((ap (λ a. a .refusal) (e .0), rw (c .put-f64 .ensures, e .0)), e .1)
 
 pub fsrs-card-loss-and-grad-in-spec : {M : Type 1} → statement M
@@ -33,7 +33,7 @@ fsrs-card-loss-and-grad-in-spec =
     tie.close
     (tie.spec
     align-of-requires
-    card-loss-and-grad-in-requires
+    card-loss-and-grad-columns-in-requires
     put-f64-requires
     same-length
     same-length-2

@@ -3,8 +3,8 @@ use borrow.Author.Needs.{needs}
 use Rattle.fsrs6.proofs.prefixes.fsrs_batch_loss_and_grad.Statement.{statement}
 use Rattle.fsrs6.proofs.prefixes.fsrs_batch_loss_and_grad.Tie as tie
 
-batch-loss-and-grad-requires : tie.Need-batch-loss-and-grad-requires
-batch-loss-and-grad-requires c κs = search needs
+batch-loss-and-grad-columns-requires : tie.Need-batch-loss-and-grad-columns-requires
+batch-loss-and-grad-columns-requires c κs = search needs
 
 put-f64-requires : tie.Need-put-f64-requires
 put-f64-requires c κs = search needs
@@ -17,9 +17,9 @@ same-length-2 c = search needs
 
 returns : tie.Need-returns
 returns c =
-    let e = c .before .before .before .before .before .before .batch-loss-and-grad .ensures in ((ap (λ a. a .refusal) (e .0), rw (c .put-f64 .ensures, e .0)), e .1)
+    let e = c .before .before .before .before .before .before .batch-loss-and-grad-columns .ensures in ((ap (λ a. a .refusal) (e .0), rw (c .put-f64 .ensures, e .0)), e .1)
 
 pub fsrs-batch-loss-and-grad-spec : {M : Type 1} → statement M
 fsrs-batch-loss-and-grad-spec =
     tie.close
-    (tie.spec batch-loss-and-grad-requires put-f64-requires same-length same-length-2 returns)
+    (tie.spec batch-loss-and-grad-columns-requires put-f64-requires same-length same-length-2 returns)

@@ -25,20 +25,20 @@ is-end-requires c κs = search needs
 loop-holds : tie.Need-loop-holds Inv-loop μ-loop
 loop-holds c = (search needs, rows-none _ _)
 
+cell-at-requires : tie.Need-cell-at-requires Inv-loop μ-loop
+cell-at-requires c κs = search needs
+
+cell-at-requires-2 : tie.Need-cell-at-requires-2 Inv-loop μ-loop
+cell-at-requires-2 c κs = search needs
+
 cell-of-requires : tie.Need-cell-of-requires Inv-loop μ-loop
 cell-of-requires c κs = search needs
-
-read-requires : tie.Need-read-requires Inv-loop μ-loop
-read-requires c κs = search needs
-
-read-requires-2 : tie.Need-read-requires-2 Inv-loop μ-loop
-read-requires-2 c κs = search needs
 
 weight-at-requires : tie.Need-weight-at-requires Inv-loop μ-loop
 weight-at-requires c κs = search needs
 
-read-requires-3 : tie.Need-read-requires-3 Inv-loop μ-loop
-read-requires-3 c κs = search needs
+cell-at-requires-3 : tie.Need-cell-at-requires-3 Inv-loop μ-loop
+cell-at-requires-3 c κs = search needs
 
 is-last-requires : tie.Need-is-last-requires Inv-loop μ-loop
 is-last-requires c κs = search needs
@@ -53,15 +53,15 @@ returns : tie.Need-returns Inv-loop μ-loop
 returns c =
     let at-row-from = c .before .before in
     let at-is-last = at-row-from .before in
-    let at-read3 = at-is-last .before in
-    let at-weight-at = at-read3 .before in
-    let at-read2 = at-weight-at .before in
-    let at-read = at-read2 .before in
-    let at-cell-of = at-read .before in
-    let at-before = at-cell-of .before in
+    let at-cell-at3 = at-is-last .before in
+    let at-weight-at = at-cell-at3 .before in
+    let at-cell-of = at-weight-at .before in
+    let at-cell-at2 = at-cell-of .before in
+    let at-cell-at = at-cell-at2 .before in
+    let at-before = at-cell-at .before in
     let a = at-before .before in
     let at-is-end = a .before in
-    rows-hit _ _ (a .loop .i) _ (c .before .card-row .result) (at-before .loop-test .taken) (a .loop .inv .1) (rw (c .before .card-row .ensures, at-row-from .row-from .ensures, at-is-last .is-last .ensures, at-read3 .read3 .ensures, at-weight-at .weight-at .ensures, at-read2 .read2 .ensures, at-read .read .ensures, at-cell-of .cell-of .ensures, at-is-end .is-end .ensures)) (c .if1 .taken)
+    rows-hit _ _ (a .loop .i) _ (c .before .card-row .result) (at-before .loop-test .taken) (a .loop .inv .1) (rw (c .before .card-row .ensures, at-row-from .row-from .ensures, at-is-last .is-last .ensures, at-weight-at .weight-at .ensures, at-cell-of .cell-of .ensures, at-cell-at3 .cell-at3 .ensures, at-cell-at2 .cell-at2 .ensures, at-cell-at .cell-at .ensures, at-is-end .is-end .ensures)) (c .if1 .taken)
 
 add-i : tie.Need-add-i Inv-loop μ-loop
 add-i c = search needs
@@ -73,15 +73,15 @@ loop-again : tie.Need-loop-again Inv-loop μ-loop
 loop-again c =
     let at-row-from = c .before .before in
     let at-is-last = at-row-from .before in
-    let at-read3 = at-is-last .before in
-    let at-weight-at = at-read3 .before in
-    let at-read2 = at-weight-at .before in
-    let at-read = at-read2 .before in
-    let at-cell-of = at-read .before in
-    let at-before = at-cell-of .before in
+    let at-cell-at3 = at-is-last .before in
+    let at-weight-at = at-cell-at3 .before in
+    let at-cell-of = at-weight-at .before in
+    let at-cell-at2 = at-cell-of .before in
+    let at-cell-at = at-cell-at2 .before in
+    let at-before = at-cell-at .before in
     let a = at-before .before in
     let at-is-end = a .before in
-    (search needs, rows-more _ _ (a .loop .i) (c .before .card-row .result) (a .loop .inv .1) (rw (c .before .card-row .ensures, at-row-from .row-from .ensures, at-is-last .is-last .ensures, at-read3 .read3 .ensures, at-weight-at .weight-at .ensures, at-read2 .read2 .ensures, at-read .read .ensures, at-cell-of .cell-of .ensures, at-is-end .is-end .ensures)) (c .if1 .left))
+    (search needs, rows-more _ _ (a .loop .i) (c .before .card-row .result) (a .loop .inv .1) (rw (c .before .card-row .ensures, at-row-from .row-from .ensures, at-is-last .is-last .ensures, at-weight-at .weight-at .ensures, at-cell-of .cell-of .ensures, at-cell-at3 .cell-at3 .ensures, at-cell-at2 .cell-at2 .ensures, at-cell-at .cell-at .ensures, at-is-end .is-end .ensures)) (c .if1 .left))
 
 no-fault-requires : tie.Need-no-fault-requires Inv-loop μ-loop
 no-fault-requires c κs = search needs
@@ -102,11 +102,11 @@ card-rows-spec =
     μ-loop
     is-end-requires
     loop-holds
+    cell-at-requires
+    cell-at-requires-2
     cell-of-requires
-    read-requires
-    read-requires-2
     weight-at-requires
-    read-requires-3
+    cell-at-requires-3
     is-last-requires
     row-from-requires
     card-row-requires

@@ -17,14 +17,11 @@ abbrev μ-loop : tie.MeasureT-loop
 loop-holds : tie.Need-loop-holds Inv-loop μ-loop
 loop-holds c = (search needs, rows-none _ _)
 
-cell-of-requires : tie.Need-cell-of-requires Inv-loop μ-loop
-cell-of-requires c κs = search needs
+cell-at-requires : tie.Need-cell-at-requires Inv-loop μ-loop
+cell-at-requires c κs = search needs
 
-read-requires : tie.Need-read-requires Inv-loop μ-loop
-read-requires c κs = search needs
-
-read-requires-2 : tie.Need-read-requires-2 Inv-loop μ-loop
-read-requires-2 c κs = search needs
+cell-at-requires-2 : tie.Need-cell-at-requires-2 Inv-loop μ-loop
+cell-at-requires-2 c κs = search needs
 
 row-from-requires : tie.Need-row-from-requires Inv-loop μ-loop
 row-from-requires c κs = search needs
@@ -35,12 +32,11 @@ prefix-row-requires c κs = search needs
 returns : tie.Need-returns Inv-loop μ-loop
 returns c =
     let at-row-from = c .before .before in
-    let at-read2 = at-row-from .before in
-    let at-read = at-read2 .before in
-    let at-cell-of = at-read .before in
-    let at-before = at-cell-of .before in
+    let at-cell-at2 = at-row-from .before in
+    let at-cell-at = at-cell-at2 .before in
+    let at-before = at-cell-at .before in
     let a = at-before .before in
-    rows-hit _ _ (a .loop .i) _ (c .before .prefix-row .result) (at-before .loop-test .taken) (a .loop .inv .1) (rw (c .before .prefix-row .ensures, at-row-from .row-from .ensures, at-read2 .read2 .ensures, at-read .read .ensures, at-cell-of .cell-of .ensures)) (c .if1 .taken)
+    rows-hit _ _ (a .loop .i) _ (c .before .prefix-row .result) (at-before .loop-test .taken) (a .loop .inv .1) (rw (c .before .prefix-row .ensures, at-row-from .row-from .ensures, at-cell-at2 .cell-at2 .ensures, at-cell-at .cell-at .ensures)) (c .if1 .taken)
 
 add-i : tie.Need-add-i Inv-loop μ-loop
 add-i c = search needs
@@ -51,12 +47,11 @@ loop-less c = search needs
 loop-again : tie.Need-loop-again Inv-loop μ-loop
 loop-again c =
     let at-row-from = c .before .before in
-    let at-read2 = at-row-from .before in
-    let at-read = at-read2 .before in
-    let at-cell-of = at-read .before in
-    let at-before = at-cell-of .before in
+    let at-cell-at2 = at-row-from .before in
+    let at-cell-at = at-cell-at2 .before in
+    let at-before = at-cell-at .before in
     let a = at-before .before in
-    (search needs, rows-more _ _ (a .loop .i) (c .before .prefix-row .result) (a .loop .inv .1) (rw (c .before .prefix-row .ensures, at-row-from .row-from .ensures, at-read2 .read2 .ensures, at-read .read .ensures, at-cell-of .cell-of .ensures)) (c .if1 .left))
+    (search needs, rows-more _ _ (a .loop .i) (c .before .prefix-row .result) (a .loop .inv .1) (rw (c .before .prefix-row .ensures, at-row-from .row-from .ensures, at-cell-at2 .cell-at2 .ensures, at-cell-at .cell-at .ensures)) (c .if1 .left))
 
 no-fault-requires : tie.Need-no-fault-requires Inv-loop μ-loop
 no-fault-requires c κs = search needs
@@ -76,9 +71,8 @@ prefix-rows-spec =
     Inv-loop
     μ-loop
     loop-holds
-    cell-of-requires
-    read-requires
-    read-requires-2
+    cell-at-requires
+    cell-at-requires-2
     row-from-requires
     prefix-row-requires
     returns

@@ -3,8 +3,8 @@ use Rattle.domain.specs.Doubles.{zero64}
 use mathlib.Core.Path.{_∙_}
 use Rattle.analytic_v6.proofs.prefixes.Columns.{unscored, loss-of, slots-of, records-of}
 use borrow.Author.Needs.{needs}
-use Rattle.analytic_v6.proofs.prefixes.grad.column_loss_and_grad.Statement.{statement}
-use Rattle.analytic_v6.proofs.prefixes.grad.column_loss_and_grad.Tie as tie
+use Rattle.analytic_v6.proofs.prefixes.grad_columns.column_loss_and_grad.Statement.{statement}
+use Rattle.analytic_v6.proofs.prefixes.grad_columns.column_loss_and_grad.Tie as tie
 
 cut-length-requires : tie.Need-cut-length-requires
 cut-length-requires c κs = search needs

@@ -1,8 +1,8 @@
 use mathlib.Core.Path.{_∙_}
 use Rattle.analytic_v6.proofs.cards.Columns.{empty-loss, empty-slots, empty-records, empty-grads, loss-of, slots-of, records-of, grads-of}
 use borrow.Author.Needs.{needs}
-use Rattle.analytic_v6.proofs.cards.grad.column_loss_and_grad.Statement.{statement}
-use Rattle.analytic_v6.proofs.cards.grad.column_loss_and_grad.Tie as tie
+use Rattle.analytic_v6.proofs.cards.grad_columns.column_loss_and_grad.Statement.{statement}
+use Rattle.analytic_v6.proofs.cards.grad_columns.column_loss_and_grad.Tie as tie
 
 cut-length-requires : tie.Need-cut-length-requires
 cut-length-requires c κs = search needs
@@ -22,14 +22,14 @@ first-review-requires c κs = search needs
 card-forward-recorded-requires : tie.Need-card-forward-recorded-requires
 card-forward-recorded-requires c κs = search needs
 
+cell-at-requires : tie.Need-cell-at-requires
+cell-at-requires c κs = search needs
+
+cell-at-requires-2 : tie.Need-cell-at-requires-2
+cell-at-requires-2 c κs = search needs
+
 cell-of-requires : tie.Need-cell-of-requires
 cell-of-requires c κs = search needs
-
-read-requires : tie.Need-read-requires
-read-requires c κs = search needs
-
-read-requires-2 : tie.Need-read-requires-2
-read-requires-2 c κs = search needs
 
 weight-at-requires : tie.Need-weight-at-requires
 weight-at-requires c κs = search needs
@@ -52,8 +52,15 @@ column-backward-requires c κs = search needs
 same-length : tie.Need-same-length
 same-length c = search needs
 
+-- of the records, which one call writes: `search` does not reach that far back
 same-length-2 : tie.Need-same-length-2
-same-length-2 c = search needs
+same-length-2 c =
+    let at-column-backward = c .before .before in
+    let at-last-end = at-column-backward .before .before .before .before .before .before in
+    let at-write-f64 = at-last-end .before .before .before .before in
+    let at-cell-at = at-write-f64 .before .before .before .before .before .before in
+    let at-card-forward-recorded = at-cell-at .before .before .before .before .before .before in
+    at-card-forward-recorded .card-forward-recorded .kept .1 .1 .1 .1 .1 .1 .1 .1 .1 .1 .0
 
 same-length-3 : tie.Need-same-length-3
 same-length-3 c = search needs
@@ -65,10 +72,10 @@ returns-2 c =
     let at-write-f64 = at-last-end .before .before .before .before in
     let at-row-from = at-write-f64 .before .before in
     let at-weight-at = at-row-from .before in
-    let at-read2 = at-weight-at .before in
-    let at-read = at-read2 .before in
-    let at-cell-of = at-read .before in
-    let at-card-forward-recorded = at-cell-of .before .before .before .before .before .before in
+    let at-cell-of = at-weight-at .before in
+    let at-cell-at2 = at-cell-of .before in
+    let at-cell-at = at-cell-at2 .before in
+    let at-card-forward-recorded = at-cell-at .before .before .before .before .before .before in
     let at-first-review = at-card-forward-recorded .before .before .before in
     let at-if1 = at-first-review .before in
     let at-cut-length = at-if1 .before in
@@ -77,9 +84,9 @@ returns-2 c =
     let h = at-if1 .if1 .left in
     let f = at-first-review .first-review .ensures in
     let r = at-card-forward-recorded .card-forward-recorded .ensures in (
-      (rw (at-last-end .last-end .ensures .0) (loss-of _ _ _ _ e h _ f (at-card-forward-recorded .card-forward-recorded .result) _ _ _ _ (at-row-from .row-from .ensures) (at-card-forward-recorded .card-forward-recorded .ensures .0) (rw (at-read .read .ensures, at-cell-of .cell-of .ensures)) (rw (at-read2 .read2 .ensures, at-cell-of .cell-of .ensures)) (rw (at-weight-at .weight-at .ensures, at-cell-of .cell-of .ensures)))),
+      (rw (at-last-end .last-end .ensures .0) (loss-of _ _ _ _ e h _ f (at-card-forward-recorded .card-forward-recorded .result) _ _ _ _ (at-row-from .row-from .ensures) (at-card-forward-recorded .card-forward-recorded .ensures .0) (at-cell-at .cell-at .ensures) (at-cell-at2 .cell-at2 .ensures) (rw (at-weight-at .weight-at .ensures, at-cell-of .cell-of .ensures)))),
       (rw (at-column-backward .column-backward .ensures, at-last-end .last-end .ensures .0, at-last-end .last-end .ensures .1, at-write-f64 .write-f64 .ensures, r .1, r .2)
-          (slots-of _ _ _ _ e h _ f (at-card-forward-recorded .card-forward-recorded .result) _ _ _ _ (at-row-from .row-from .ensures) (at-card-forward-recorded .card-forward-recorded .ensures .0) (rw (at-read .read .ensures, at-cell-of .cell-of .ensures)) (rw (at-read2 .read2 .ensures, at-cell-of .cell-of .ensures)) (rw (at-weight-at .weight-at .ensures, at-cell-of .cell-of .ensures)) _ _ _ (at-pre .pre .0) (at-pre .pre .1))),
+          (slots-of _ _ _ _ e h _ f (at-card-forward-recorded .card-forward-recorded .result) _ _ _ _ (at-row-from .row-from .ensures) (at-card-forward-recorded .card-forward-recorded .ensures .0) (at-cell-at .cell-at .ensures) (at-cell-at2 .cell-at2 .ensures) (rw (at-weight-at .weight-at .ensures, at-cell-of .cell-of .ensures)) _ _ _ (at-pre .pre .0) (at-pre .pre .1))),
       r .1 ∙ records-of _ _ _ _ e h _ f _,
       (rw (at-write-f64 .write-f64 .ensures, r .2) (grads-of _ _ _ _ e h _ f _)),
     )
@@ -93,9 +100,9 @@ column-loss-and-grad-spec =
     sub-m
     first-review-requires
     card-forward-recorded-requires
+    cell-at-requires
+    cell-at-requires-2
     cell-of-requires
-    read-requires
-    read-requires-2
     weight-at-requires
     row-from-requires
     cast-write-f64
