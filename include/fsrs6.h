@@ -176,20 +176,20 @@ uint32_t fsrs_memory_state_from_sm2(const float *w, size_t w_len, float ease_fac
 /* ---- one training step (analytic_v6.rs), at the row-th row of its history. The state is any two finite numbers and is
  * clamped first. A rating of 0 is padding; at row 0 with the stability 0 any other is a first step; in these two the day
  * goes unread. Refusals 1, 2, 13, 6, 7. */
-/* What a step's record holds, in this order. */
+/* What a step's record holds, in this order: ten singles, and of a loss call ten columns of singles. */
 enum {
     FSRS_RECORD_STABILITY = 0,      /* the state as given */
     FSRS_RECORD_DIFFICULTY = 1,
     FSRS_RECORD_DAY = 2,            /* +0.0 where it goes unread */
     FSRS_RECORD_RATING = 3,
-    FSRS_RECORD_RETRIEVABILITY = 4,
+    FSRS_RECORD_RETRIEVABILITY = 4, /* when the review came; +0.0 in padding and in a first step */
     FSRS_RECORD_PRE_STABILITY = 5,  /* the state after the step, before its last clamp */
     FSRS_RECORD_PRE_DIFFICULTY = 6,
     FSRS_RECORD_BRANCH = 7,         /* a number of the list below */
     FSRS_RECORD_BRANCH_RAW = 8,     /* same day: the raw multiplier; lapse: the raw stability; else +0.0 */
     FSRS_RECORD_BRANCH_OTHER = 9    /* same day: the multiplier that was used; lapse: the floor; else +0.0 */
 };
-/* The branch that a step took. */
+/* The branch that a step took, as the single of this number. */
 enum {
     FSRS_BRANCH_PADDING = 0,
     FSRS_BRANCH_FIRST = 1,
@@ -199,6 +199,10 @@ enum {
     FSRS_BRANCH_LAPSE_FLOORED = 5,  /* the floor was below the raw stability, and was used */
     FSRS_BRANCH_SUCCESS = 6
 };
+/* Where number f of the record of row i stands in the records of a loss call, as it is told of below. */
+static inline size_t fsrs_record_cell(size_t records_len, size_t f, size_t i) {
+    return f * (records_len / FSRS_RECORD) + i;
+}
 /* The state after a step, and its record. */
 uint32_t fsrs_training_step(const float *w, size_t w_len, float stability, float difficulty, float day, float rating,
                             size_t row, float *next_stability, float *next_difficulty, float record[10]);
@@ -224,10 +228,20 @@ uint32_t fsrs_training_step_backward(const float *w, size_t w_len, float stabili
  * review weight 8, label 8, day 7.
  *
  * The gradient is added to the 21 slots of gw. records is room for ten singles, and step_grads for a double, for each row of
- * the longest column. records is column-major: number f of the record of row i (f is FSRS_RECORD_STABILITY or another of
- * these) is cell f * (records_len / 10) + i. After an accepted call record i is that of the last column that stepped on row
- * i, and step gradient i that of the last card longer than i; the others are as they were. A prefix steps on all its rows,
- * a card on all but its last, whose step gradient is 0. */
+ * the longest column, whose length is cut to the rows; a card's last row counts too. Where records_len / 10 or
+ * step_grads_len is less, the call is refused by 4, and has written nothing.
+ *
+ * records is column-major: ten columns, from FSRS_RECORD_STABILITY to FSRS_RECORD_BRANCH_OTHER, one behind another, each of
+ * records_len / 10 cells, a cell for each row. So number f of the record of row i is records[f * (records_len / 10) + i]
+ * (fsrs_record_cell), and column f is a plain array that begins at records + f * (records_len / 10). The records_len % 10
+ * cells behind the last column are never touched.
+ *
+ * A prefix steps on all its rows, a card on all but its last, whose step gradient is 0. After an accepted call record i is
+ * that of the batch's last column that stepped on row i, and step gradient i that of the last card longer than i; the others
+ * are as they were. So the path of one history is that of a call of one column, and where the branches were -1 before it,
+ * which no branch is, they are so still beyond the last step. The state before a step stands in the first two columns, and
+ * that after it at the next row; after the last step it is the two numbers before the last clamp, clamped to their ranges.
+ * examples/path.c reads a path. */
 /* Prefixes: each column is a history, and the review after it (delta_ts, labels, weights: one a column) is scored. */
 uint32_t fsrs_batch_loss(const float *w, size_t w_len, const float *t_hist, size_t t_hist_len, const float *r_hist,
                          size_t r_hist_len, uint32_t seq_len, uint32_t batch, const uint32_t *seq_lens,

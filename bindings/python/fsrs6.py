@@ -30,6 +30,7 @@ import os
 import sys
 from array import array
 from ctypes import c_bool, c_double, c_float, c_size_t, c_uint8, c_uint32
+from enum import IntEnum
 from functools import lru_cache
 from typing import TYPE_CHECKING, Any, List, NamedTuple, Sequence, Union
 
@@ -48,12 +49,13 @@ __all__ = [
     "RECORD_STABILITY", "RECORD_DIFFICULTY", "RECORD_DAY", "RECORD_RATING", "RECORD_RETRIEVABILITY", "RECORD_PRE_STABILITY",
     "RECORD_PRE_DIFFICULTY", "RECORD_BRANCH", "RECORD_BRANCH_RAW", "RECORD_BRANCH_OTHER", "BRANCH_PADDING", "BRANCH_FIRST",
     "BRANCH_SAME_DAY", "BRANCH_SAME_DAY_ONE", "BRANCH_LAPSE", "BRANCH_LAPSE_FLOORED", "BRANCH_SUCCESS",
-    "State", "Seen", "Step", "Stepped", "StateGradient", "Prefixes", "Cards", "Gradient",
+    "State", "Seen", "Step", "Stepped", "Branch", "Record", "StateGradient", "Prefixes", "Cards", "Gradient",
     "exp_f32", "exp_f64", "expm1_f32", "ln_f32", "ln_f64", "pow_f32", "pow_f64", "fma_f32", "fma_f64", "round_f32", "round_f64",
     "check_and_fill_parameters", "power_forgetting_curve", "next_interval", "init_difficulty", "mean_reversion", "next_difficulty",
     "stability_after_success", "stability_after_failure", "stability_short_term", "first_state", "next_state",
     "next_state_on", "memory_state_from_sm2",
-    "training_step", "training_step_backward", "batch_loss", "batch_loss_and_grad", "card_loss", "card_loss_and_grad", "batch_file",
+    "training_step", "training_step_backward", "record", "batch_loss", "batch_loss_and_grad", "card_loss", "card_loss_and_grad",
+    "batch_file",
 ]
 
 WEIGHTS = 21  # weights of a set, and slots of a gradient
@@ -142,15 +144,48 @@ class Step(NamedTuple):
 
 
 class Stepped(NamedTuple):
-    """What a step gives: the state after it, and how it came about.
-
-    The record has the state as given (stability, difficulty), day, rating, retrievability, stability and difficulty before their
-    last clamp, the branch, and the branch's two numbers. The branch is 0 padding, 1 first, 2 same day, 3 same day with the
-    multiplier 1, 4 lapse, 5 lapse floored, 6 success.
-    """
+    """What a step gives: the state after it, and how it came about: ten numbers, from RECORD_STABILITY on, which `record` reads."""
 
     state: State
     record: array[float]
+
+
+class Branch(IntEnum):
+    """The branch that a step took, by its number in a record."""
+
+    PADDING = BRANCH_PADDING  # no review
+    FIRST = BRANCH_FIRST
+    SAME_DAY = BRANCH_SAME_DAY
+    SAME_DAY_ONE = BRANCH_SAME_DAY_ONE  # the raw multiplier was below 1, and 1 was used
+    LAPSE = BRANCH_LAPSE
+    LAPSE_FLOORED = BRANCH_LAPSE_FLOORED  # the floor was below the raw stability, and was used
+    SUCCESS = BRANCH_SUCCESS
+
+
+class Record(NamedTuple):
+    """The record of a step by its names, in the order of the columns: `record` reads one."""
+
+    stability: float  # the state as given
+    difficulty: float
+    day: float  # 0 in padding and in a first step, where it goes unread
+    rating: float
+    retrievability: float  # when the review came; 0 in padding and in a first step
+    pre_stability: float  # the state after the step, before its last clamp
+    pre_difficulty: float
+    branch: Branch
+    branch_raw: float  # same day: the raw multiplier; lapse: the raw stability; else 0
+    branch_other: float  # same day: the multiplier that was used; lapse: the floor; else 0
+
+    @property
+    def before(self) -> State:
+        """The state as given."""
+        return State(self.stability, self.difficulty)
+
+    @property
+    def after(self) -> State:
+        """The state after the step: clamped to its range, as the step did last."""
+        low = c_float(0.0001).value
+        return State(min(max(self.pre_stability, low), 36500.0), min(max(self.pre_difficulty, 1.0), 10.0))
 
 
 class StateGradient(NamedTuple):
@@ -777,6 +812,40 @@ def training_step_backward(w: Singles, step: Step, after: StateGradient, by_retr
     return StateGradient(*_call("training_step_backward", w, *given, gw))
 
 
+def record(records: Singles, row: int) -> Record:
+    """The record of a row, read from the `records` that a loss with its gradient was lent; or of a step, row 0 of its ten numbers.
+
+    The layout is column-major: ten columns of `len(records) // 10` cells, one behind another, in the order of RECORD_STABILITY to
+    RECORD_BRANCH_OTHER. So number f of row i is `records[f * (len(records) // 10) + i]`.
+
+    After an accepted call record i is that of the batch's last column that stepped on row i: a prefix steps on all its rows, a card
+    on all but its last. A row on which none did is as it was lent: where its branch is -1, which no branch is, there is a ValueError.
+    A row for which there is no room is an IndexError.
+
+    >>> w = check_and_fill_parameters([])
+    >>> card = Cards(rows=3, columns=1, days=[0, 0, 4], ratings=[3, 4, 1], lengths=[3], labels=[0, 1, 0], weights=[0, 1, 1])
+    >>> records = array("f", 3 * RECORD * [-1])
+    >>> loss = card_loss_and_grad(w, card, 21 * [0.0], records, 3 * [0.0])
+    >>> path = [record(records, row) for row in range(2)]
+    >>> [step.branch.name for step in path], path[0].after == path[1].before == first_state(w, 3)
+    (['FIRST', 'SAME_DAY'], True)
+    >>> record(records, 2)  # the last review is scored, and no step is made on it
+    Traceback (most recent call last):
+    ValueError: row 2 has no record: -1.0 is the number of no branch
+    >>> record(training_step(w, Step(rating=1)).record, 0).branch
+    <Branch.FIRST: 1>
+    """
+    room = len(records) // RECORD
+    if not 0 <= row < room:
+        raise IndexError(f"row {row} has no record: there is room for {room}")
+    cells = [float(records[field * room + row]) for field in range(RECORD)]
+    try:
+        cells[RECORD_BRANCH] = Branch(cells[RECORD_BRANCH])
+    except ValueError:
+        raise ValueError(f"row {row} has no record: {cells[RECORD_BRANCH]} is the number of no branch") from None
+    return Record(*cells)
+
+
 # ---- the two losses, alone and with their gradients, and batch files
 
 def batch_loss(w: Singles, prefixes: Prefixes) -> float:
@@ -797,7 +866,7 @@ def batch_loss(w: Singles, prefixes: Prefixes) -> float:
 
 def batch_loss_and_grad(w: Singles, prefixes: Prefixes, gw: Lent, records: Lent) -> float:
     """The loss of a batch of prefixes, and its gradient added to the 21 slots of `gw`. `Gradient` does the same and keeps the room
-    that is lent here: `records`, ten singles for each row of the longest column.
+    that is lent here: `records`, ten singles for each row of the longest column, from which `record` reads the path of the states.
 
     Refusals: those of `batch_loss`, and after those of the weights SlotCount, after Sizes also Room.
 
@@ -834,7 +903,7 @@ def card_loss(w: Singles, cards: Cards) -> float:
 
 def card_loss_and_grad(w: Singles, cards: Cards, gw: Lent, records: Lent, step_grads: Lent) -> float:
     """The loss of a batch of cards, and its gradient added to the 21 slots of `gw`. `Gradient` does the same and keeps the room
-    that is lent here: `records`, ten singles, and `step_grads`, a double, for each row of the longest column.
+    that is lent here: `records`, ten singles (`record` reads them), and `step_grads`, a double, for each row of the longest column.
 
     Refusals: those of `card_loss`, and after those of the weights SlotCount, after Sizes also Room.
 

@@ -110,11 +110,52 @@ static void records(void) {
                "row %d: the state after it", row);
         for (int f = 0; f < FSRS_RECORD; f++) {
             expect_single("a cell", lent[f * (CELLS / 10) + row], record[f]);
+            expect(fsrs_record_cell(CELLS, (size_t)f, (size_t)row) == (size_t)(f * (CELLS / 10) + row), "where a cell is");
         }
     }
     for (int i = 0; i < CELLS; i++) {
         int is_cell = i < CELLS - OVER && i % ROOM < ROWS;
         expect(is_cell || lent[i] == -7, "cell %d was written", i);
+    }
+}
+
+/* Two cards of the history's first rows, of which the first column's is the longer: record i is that of the last that stepped
+ * on row i, no card steps on its last row, and beyond branches are as they were. Their path by the names is that of the states
+ * one by one. */
+static void path(void) {
+    enum { FIRST = 7, SECOND = 4 };
+    const uint32_t lengths[2] = {FIRST, SECOND};
+    float tables[2][2 * ROWS], zeros[2 * ROWS] = {0}, lent[CELLS], s = 0, d = 0, record[FSRS_RECORD];
+    double gw[FSRS_WEIGHTS] = {0}, step_grads[ROWS], loss;
+    for (int i = 0; i < CELLS; i++) {
+        lent[i] = -1;
+    }
+    for (int row = 0; row < ROWS; row++) {
+        tables[0][2 * row] = tables[0][2 * row + 1] = days[row];
+        tables[1][2 * row] = tables[1][2 * row + 1] = ratings[row];
+    }
+    tables[1][1] = 1; /* the second card was forgotten at once */
+    expect(fsrs_card_loss_and_grad(w, FSRS_WEIGHTS, tables[0], 2 * ROWS, tables[1], 2 * ROWS, ROWS, 2, lengths, 2, zeros,
+                                   2 * ROWS, zeros, 2 * ROWS, gw, FSRS_WEIGHTS, lent, CELLS, step_grads, ROWS,
+                                   &loss) == FSRS_ACCEPTED, "two cards");
+    const float *stability = lent + fsrs_record_cell(CELLS, FSRS_RECORD_STABILITY, 0);
+    const float *difficulty = lent + fsrs_record_cell(CELLS, FSRS_RECORD_DIFFICULTY, 0);
+    const float *branch = lent + fsrs_record_cell(CELLS, FSRS_RECORD_BRANCH, 0);
+    for (int column = 1; column >= 0; column--, s = d = 0) {
+        for (int row = 0; row < (int)lengths[column] - 1; row++) {
+            if (column == 1 || row >= SECOND - 1) {
+                expect_single("the stability on the path", stability[row], s);
+                expect_single("the difficulty on the path", difficulty[row], d);
+            }
+            expect(fsrs_training_step(w, FSRS_WEIGHTS, s, d, days[row], tables[1][2 * row + column], (size_t)row, &s, &d,
+                                      record) == FSRS_ACCEPTED, "a step");
+            if (column == 1 || row >= SECOND - 1) {
+                expect_single("the branch on the path", branch[row], record[FSRS_RECORD_BRANCH]);
+            }
+        }
+    }
+    for (int row = FIRST - 1; row < ROOM; row++) {
+        expect(branch[row] == -1 && stability[row] == -1, "row %d was stepped on", row);
     }
 }
 
@@ -126,5 +167,6 @@ int main(void) {
     kernel_refusals();
     box();
     records();
+    path();
     return finish();
 }

@@ -34,6 +34,7 @@ mod kernels;
 mod losses;
 #[allow(unsafe_code)]
 mod raw;
+mod record;
 mod refusal;
 mod step;
 
@@ -48,12 +49,13 @@ pub use kernels::{
 pub use losses::{
     batch_file, batch_loss, batch_loss_and_grad, card_loss, card_loss_and_grad, Align, Cards, Gradient, Prefixes,
 };
+pub use record::{record, Branch, Record};
 pub use refusal::Refusal;
 pub use step::{training_step, training_step_backward, StateGradient, Step, Stepped};
 
 /// How many weights a set has, and slots a gradient.
 pub const WEIGHTS: usize = 21;
-/// How many singles the record of a step has.
+/// How many singles the record of a step has, and columns the room that is lent for records: [`record`] reads it.
 pub const RECORD: usize = 10;
 /// In the record of a step: the stability before it, as given.
 pub const RECORD_STABILITY: usize = 0;

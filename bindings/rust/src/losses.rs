@@ -123,8 +123,9 @@ pub fn batch_loss(w: &[f32], prefixes: &Prefixes) -> Result<f64, Refusal> {
 }
 
 /// The loss of a batch of prefixes, and its gradient added to the 21 slots of `gw`. [`Gradient`] does the same and keeps
-/// the room that is lent here: `records`, ten singles for each row of the longest column. It is by number and then by row:
-/// number `f` of the record of row `i`, as [`RECORD_BRANCH`](crate::RECORD_BRANCH), is cell `f * (records.len() / 10) + i`.
+/// the room that is lent here: `records`, ten singles for each row of the longest column. It is column-major: number `f` of
+/// the record of row `i`, as [`RECORD_BRANCH`](crate::RECORD_BRANCH), is cell `f * (records.len() / 10) + i`, and
+/// [`record`](crate::record) reads all ten.
 ///
 /// Refusals: those of [`batch_loss`], and after those of the weights [`Refusal::SlotCount`], after [`Refusal::Sizes`]
 /// also [`Refusal::Room`].

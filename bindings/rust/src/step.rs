@@ -22,7 +22,8 @@ pub struct Step {
 pub struct Stepped {
     /// The state after it.
     pub state: State,
-    /// How it came about: ten numbers, from [`RECORD_STABILITY`](crate::RECORD_STABILITY) on.
+    /// How it came about: ten numbers, from [`RECORD_STABILITY`](crate::RECORD_STABILITY) on, which
+    /// [`record`](crate::record) reads.
     pub record: [f32; RECORD],
 }
 

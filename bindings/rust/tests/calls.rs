@@ -368,6 +368,114 @@ fn steps_answer() {
     assert!(training_step(&w, Step { day: 100000.0, ..still.step }).is_ok());
 }
 
+mod records {
+    use super::*;
+
+    const ROWS: usize = 9;
+    const ROOM: usize = ROWS + 1;
+    /// A history that takes every branch.
+    const DAYS: [f32; ROWS] = [0.0, 0.0, 0.0, 4.0, 3.0, 0.0, 100.0, 0.0, 10000.0];
+    const RATINGS: [f32; ROWS] = [3.0, 3.0, 4.0, 1.0, 3.0, 0.0, 1.0, 1.0, 1.0];
+    /// The same, forgotten at once.
+    const OTHERS: [f32; ROWS] = [1.0, 3.0, 4.0, 1.0, 3.0, 0.0, 1.0, 1.0, 1.0];
+
+    /// The names in the order of the columns.
+    fn numbers(x: &Record) -> [f32; RECORD] {
+        let branch = [x.branch.number() as f32, x.branch_raw, x.branch_other];
+        let step = [x.stability, x.difficulty, x.day, x.rating, x.retrievability, x.pre_stability, x.pre_difficulty];
+        [&step[..], &branch].concat().try_into().expect("ten")
+    }
+
+    /// The records of steps one by one, each from the state that the one before it gives.
+    fn path_of(w: &[f32], ratings: [f32; ROWS]) -> Vec<Record> {
+        let mut state = State::default();
+        (0..ROWS)
+            .map(|row| {
+                let step = training_step(w, Step { state, day: DAYS[row], rating: ratings[row], row }).expect("a step");
+                let read = record(&step.record, 0).expect("a record");
+                assert_eq!((read.before(), read.after()), (state, step.state), "row {row}");
+                assert_eq!((numbers(&read), read.rating), (step.record, ratings[row]), "row {row}");
+                let is_unread = matches!(read.branch, Branch::Padding | Branch::First);
+                assert_eq!(read.day, if is_unread { 0.0 } else { DAYS[row] }, "row {row}");
+                state = step.state;
+                read
+            })
+            .collect()
+    }
+
+    #[test]
+    fn branches_have_the_records_numbers() {
+        assert_eq!(Branch::ALL.map(Branch::number), [0, 1, 2, 3, 4, 5, 6]);
+        assert_eq!((Branch::First.number(), Branch::SameDayOne.number()), (BRANCH_FIRST, BRANCH_SAME_DAY_ONE));
+        let w = Call::good().w;
+        let met = path_of(&w, RATINGS).into_iter().map(|step| step.branch).collect::<Vec<_>>();
+        assert!(Branch::ALL.iter().all(|branch| met.contains(branch)), "{met:?}");
+    }
+
+    #[test]
+    fn a_state_after_is_clamped() {
+        let w = Call::good().w;
+        for (stability, difficulty, day, rating, row) in
+            [(0.0, 0.0, 0.0, 4.0, 0), (36500.0, 1.0, 36500.0, 4.0, 1), (0.0001, 9.9, 1.0, 1.0, 1)]
+        {
+            let step = Step { state: State { stability, difficulty }, day, rating, row };
+            let stepped = training_step(&w, step).expect("a step");
+            let read = record(&stepped.record, 0).expect("a record");
+            assert_eq!(read.after(), stepped.state);
+            assert_ne!(read.after(), State { stability: read.pre_stability, difficulty: read.pre_difficulty });
+        }
+    }
+
+    #[test]
+    fn a_prefix_leaves_the_path_of_its_steps() {
+        let w = Call::good().w;
+        let prefix = Prefixes {
+            rows: ROWS as u32,
+            columns: 1,
+            days: &DAYS,
+            ratings: &RATINGS,
+            lengths: &[ROWS as u32],
+            target_days: &[5.0],
+            labels: &[1.0],
+            weights: &[1.0],
+            ..Prefixes::default()
+        };
+        let (mut gw, mut lent) = ([0.0; WEIGHTS], [-1.0; RECORD * ROOM + 3]);
+        assert!(batch_loss_and_grad(&w, &prefix, &mut gw, &mut lent).is_ok());
+        assert_eq!((0..).map_while(|row| record(&lent, row)).collect::<Vec<_>>(), path_of(&w, RATINGS));
+        for row in [ROWS, ROOM, usize::MAX] {
+            assert_eq!(record(&lent, row), None, "row {row}");
+        }
+        assert_eq!(lent[RECORD * ROOM..], [-1.0; 3]);
+        assert_eq!(record(&lent[..9], 0), None);
+    }
+
+    /// Of two cards record i is that of the last that stepped on row i, and none steps on its last.
+    #[test]
+    fn two_cards_leave_the_last_columns_steps() {
+        let w = Call::good().w;
+        let in_pairs =
+            |a: [f32; ROWS], b: [f32; ROWS]| a.into_iter().zip(b).flat_map(|(x, y)| [x, y]).collect::<Vec<_>>();
+        let (days, ratings, zeros) = (in_pairs(DAYS, DAYS), in_pairs(RATINGS, OTHERS), [0.0; 2 * ROWS]);
+        let cards = Cards {
+            rows: ROWS as u32,
+            columns: 2,
+            days: &days,
+            ratings: &ratings,
+            lengths: &[7, 4],
+            labels: &zeros,
+            weights: &zeros,
+            ..Cards::default()
+        };
+        let (mut gw, mut lent, mut step_grads) = ([0.0; WEIGHTS], [-1.0; RECORD * ROWS], [0.0; ROWS]);
+        assert_eq!(card_loss_and_grad(&w, &cards, &mut gw, &mut lent, &mut step_grads), Ok(0.0));
+        let (first, second) = (path_of(&w, RATINGS), path_of(&w, OTHERS));
+        let path: Vec<_> = (0..).map_while(|row| record(&lent, row)).collect();
+        assert_eq!(path, [&second[..3], &first[3..6]].concat());
+        assert_ne!(path[..3], first[..3]);
+    }
+}
+
 #[test]
 fn a_gradient_gives_the_loss_alone_and_what_is_lent() {
     let mut x = Call::good();

@@ -1,10 +1,12 @@
-pub mod shifting
-pub mod Aligned
 -- Why the promises hold.
 pub mod reading
+pub mod shifting
+pub mod stepping
 pub mod Frozen
+pub mod Aligned
 pub mod Carried
 pub mod Imported
+pub mod Layouts
 pub mod Weightless
 pub mod Twelve
 pub mod Promises

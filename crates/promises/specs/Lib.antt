@@ -3,6 +3,7 @@ pub mod CallReads
 pub mod Carried
 pub mod Frozen
 pub mod Imported
+pub mod Layouts
 pub mod LossCalls
 pub mod Promises
 pub mod Twelve

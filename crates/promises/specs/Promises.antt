@@ -7,6 +7,7 @@ use Rattle.promises.specs.Carried.{Carried}
 use Rattle.promises.specs.Twelve.{Twelve}
 use Rattle.promises.specs.Frozen.{Demand3}
 use Rattle.promises.specs.Imported.{Imported}
+use Rattle.promises.specs.Layouts.{TwoLayouts}
 
 pub record Promises : Type 0 where
   -- demand 2: exp, ln and pow 'lie within document 01's distances of its exact fractions', in single and in double (laws/specs/Distances.antt)
@@ -22,3 +23,5 @@ pub record Promises : Type 0 where
   pub aligned-at-the-end : Aligned
   -- change request K2: a review on a day, of a state that carries the day when its card was last seen (Carried.antt)
   pub last-seen : Carried
+  -- change request K10: the step records as a slice of records and as plain columns (Layouts.antt)
+  pub both-layouts : TwoLayouts
