@@ -1,5 +1,5 @@
-/* The scalar core of FSRS-6: kernels, formulas, the training step and the two losses, each proved to be the definition that
- * its crate's specs/ hold. `./lib` writes the archive, target/lib/libfsrs6.a, for x86-64.
+/* The scalar core of FSRS-6: kernels, formulas, the training step, the two losses and a pull toward the old weights, each
+ * proved to be the definition that its crate's specs/ hold. `./lib` writes the archive, target/lib/libfsrs6.a, for x86-64.
  *
  * Every function but the kernels returns the number of its refusal, 0 where the call was accepted, and writes its answers
  * through the places lent to it. A refused call writes nothing. A slice is a pointer and the number of its entries.
@@ -48,7 +48,7 @@ enum {
     FSRS_KERNEL = 10,        /* a kernel's argument: shown as a NaN */
     FSRS_FILE = 11,          /* a malformed batch file */
     FSRS_FILLING_COUNT = 12, /* a weight set to fill has not 0, 17, 19 or 21 entries */
-    FSRS_SCALAR = 13,        /* an argument of a formula or of a single step */
+    FSRS_SCALAR = 13,        /* an argument of a formula, of a single step or of the pull toward the old weights */
     FSRS_IMPORT = 14,        /* a card from SM-2 gets no finite state, as by a retention not inside 0..1 */
     FSRS_EARLIER = 15        /* a review on an earlier day than the one on which the card was last seen */
 };
@@ -85,6 +85,8 @@ enum {
     FSRS_FILE_ROWS = 512,
     FSRS_MAX_DAY = 100000    /* the last day number */
 };
+/* The most that a batch size or a total of fsrs_l2_penalty is: 2^31, which no enum of C need hold. */
+#define FSRS_MAX_SIZE UINT64_C(2147483648)
 
 /* ---- ranges. Both ends belong to a range, a decimal is the single nearest to it, and a zero of either sign is 0.
  *
@@ -305,6 +307,20 @@ uint32_t fsrs_card_loss_and_grad_in(bool end, const float *w, size_t w_len, cons
                                     size_t labels_len, const float *weights, size_t weights_len, double *gw,
                                     size_t gw_len, float *records, size_t records_len, double *step_grads,
                                     size_t step_grads_len, double *loss);
+
+/* ---- a pull toward the old weights (training_v7.rs, l2_penalty_value_and_grad), to be added to a loss so that a small deck
+ * gives no wild fit. With scale = l2_weight * batch_size / total_size, all in double, the penalty is the sum over the weights
+ * of ((w - init_w) / params_stddev)^2, times scale, and slot i is its derivative by weight i, as a single.
+ *
+ * The 21 slots are written, all of them, and not added to: this is the one gradient here that does not sum up, and what
+ * stood in them does not count. They are singles, and other slots than a loss's. A penalty that is not finite gives +0.0
+ * throughout, a slot alone that is not finite is +0.0, and a total of 0 gives +0.0 throughout; so all that is written is finite.
+ *
+ * Refusals 1 for w, init_w or params_stddev, 2 for w or init_w, 5 for slots, then 13: a spread (an entry of params_stddev)
+ * that is not finite and above 0, or a size over 2^31. l2_weight is any double. */
+uint32_t fsrs_l2_penalty(const float *w, size_t w_len, const float *init_w, size_t init_w_len, uint64_t batch_size,
+                         uint64_t total_size, double l2_weight, const float *params_stddev, size_t params_stddev_len,
+                         float *slots, size_t slots_len, double *penalty);
 
 /* ---- a batch file, run as one call of its loss with the gradient, which is added to the 21 slots of gw. Its histories
  * begin at row 0. Refusal 11, then those of the loss. Records and step gradients are its own, with room for every file: it

@@ -1,4 +1,5 @@
-"""The scalar core of FSRS-6: kernels, formulas, the training step and the two losses, each proved to be its definition.
+"""The scalar core of FSRS-6: kernels, formulas, the training step, the two losses and a pull toward the old weights, each proved to be
+its definition.
 
 These are functions over the shared library of `include/fsrs6.h`, one for each of its functions and under its name; a loss has one,
 and its batch tells the mode (`end`). ctypes is all that they need. A call answers, or raises the `Refusal` by which it was refused
@@ -29,7 +30,7 @@ import operator
 import os
 import sys
 from array import array
-from ctypes import c_bool, c_double, c_float, c_size_t, c_uint8, c_uint32
+from ctypes import c_bool, c_double, c_float, c_size_t, c_uint8, c_uint32, c_uint64
 from enum import IntEnum
 from functools import lru_cache
 from typing import TYPE_CHECKING, Any, List, NamedTuple, Sequence, Union
@@ -45,7 +46,7 @@ Lent = Union[List[float], Buffer]  # what is written
 
 __all__ = [
     "load", "Refusal", "REFUSALS", "WEIGHTS", "RECORD", "MAX_ROWS", "MAX_COLUMNS", "FILE_BYTES", "FILE_ROWS",
-    "MAX_DAY",
+    "MAX_DAY", "MAX_SIZE",
     "RECORD_STABILITY", "RECORD_DIFFICULTY", "RECORD_DAY", "RECORD_RATING", "RECORD_RETRIEVABILITY", "RECORD_PRE_STABILITY",
     "RECORD_PRE_DIFFICULTY", "RECORD_BRANCH", "RECORD_BRANCH_RAW", "RECORD_BRANCH_OTHER", "BRANCH_PADDING", "BRANCH_FIRST",
     "BRANCH_SAME_DAY", "BRANCH_SAME_DAY_ONE", "BRANCH_LAPSE", "BRANCH_LAPSE_FLOORED", "BRANCH_SUCCESS",
@@ -55,6 +56,7 @@ __all__ = [
     "stability_after_success", "stability_after_failure", "stability_short_term", "first_state", "next_state",
     "next_state_on", "memory_state_from_sm2",
     "training_step", "training_step_backward", "record", "batch_loss", "batch_loss_and_grad", "card_loss", "card_loss_and_grad",
+    "l2_penalty",
     "batch_file",
 ]
 
@@ -65,6 +67,7 @@ MAX_COLUMNS = 512
 FILE_BYTES = 65536  # the longest batch file
 FILE_ROWS = 512
 MAX_DAY = 100000  # the last day number
+MAX_SIZE = 1 << 31  # the most that a batch size or a total of l2_penalty is
 
 # What a step's record holds, in this order, and the branch that a step took: as include/fsrs6.h has them.
 (
@@ -257,7 +260,7 @@ _KERNELS = {
 }
 
 # All others: what is given, each as NAME:TYPE, and behind > what is answered. f is a single, d a double, I a whole number of 32
-# bits, n one of the machine's size, ? a truth; [f] a slice of singles, which C takes as a pointer and a length, and &[d] one that
+# bits, Q one of 64, n one of the machine's size, ? a truth; [f] a slice of singles, which C takes as a pointer and a length, and &[d] one that
 # is written. An answer may be as many singles as its number says. Of the losses these are the functions that take the mode.
 _TABLES = "end:? w:[f] days:[f] ratings:[f] rows:I columns:I lengths:[I] "
 _STEP = "w:[f] stability:f difficulty:f day:f rating:f row:n "
@@ -281,9 +284,10 @@ _CALLS = {
     "batch_loss_and_grad_in": _TABLES + "target_days:[f] labels:[f] weights:[f] gw:&[d] records:&[f] > d",
     "card_loss_in": _TABLES + "labels:[f] weights:[f] > d",
     "card_loss_and_grad_in": _TABLES + "labels:[f] weights:[f] gw:&[d] records:&[f] step_grads:&[d] > d",
+    "l2_penalty": "w:[f] init_w:[f] batch_size:Q total_size:Q l2_weight:d params_stddev:[f] slots:&[f] > d",
     "batch_file": "file:[B] gw:&[d] > d",
 }
-_TYPES = {"f": c_float, "d": c_double, "I": c_uint32, "B": c_uint8, "n": c_size_t, "?": c_bool}
+_TYPES = {"f": c_float, "d": c_double, "I": c_uint32, "Q": c_uint64, "B": c_uint8, "n": c_size_t, "?": c_bool}
 # The formats under which a buffer may tell that it has entries of a type.
 _FORMATS = {"f": "f", "d": "d", "I": "IL", "B": "Bbc"}
 _NATIVE = "@=<" if sys.byteorder == "little" else "@=>"
@@ -924,6 +928,27 @@ def _tables(w: Singles, batch: Union[Prefixes, Cards], kind: type) -> tuple:
     if not isinstance(batch, kind):
         raise TypeError(f"{type(batch).__name__} where {kind.__name__} is wanted")
     return batch.end, w, batch.days, batch.ratings, batch.rows, batch.columns, batch.lengths
+
+
+def l2_penalty(
+    w: Singles, init_w: Singles, batch_size: int, total_size: int, l2_weight: float, params_stddev: Singles, slots: Lent
+) -> float:
+    """How far the weights `w` have gone from `init_w`, each measured by its spread, times `l2_weight * batch_size / total_size`;
+    the gradient of that stands in the 21 `slots`, singles, which are written, and not added to. All of it is finite: a penalty
+    that is not gives zeros throughout, a slot alone that is not is 0, and a total of 0 gives zeros.
+
+    Refusals: WeightCount for any of the three sets, WeightBox for either weight set, SlotCount, then Scalar for a spread that is
+    not finite and above 0, or a size over MAX_SIZE.
+
+    >>> old = check_and_fill_parameters([])
+    >>> w, slots = old[:], 21 * [7.0]
+    >>> w[4] += 0.5
+    >>> l2_penalty(w, old, 10, 100, 2, 21 * [1], slots)  # 0.5 ** 2 * 2 * 10 / 100
+    0.05
+    >>> round(slots[4], 6), slots[5]
+    (0.2, 0.0)
+    """
+    return _call("l2_penalty", w, init_w, batch_size, total_size, l2_weight, params_stddev, slots)[0]
 
 
 def batch_file(file: Wholes, gw: Lent) -> float:

@@ -23,4 +23,5 @@ fn main() {
     println!("cargo:rerun-if-changed={}", archive.display());
     println!("cargo:rustc-link-search=native={}", archive.parent().unwrap_or(&folder).display());
     println!("cargo:rustc-link-lib=static=fsrs6");
+    println!("cargo:rustc-env=FSRS6_ARCHIVE={}", archive.display()); // examples/fit.rs tells it
 }

@@ -162,6 +162,18 @@ pub struct File {
     pub slots: Vec<f64>,
 }
 
+/// A pull toward the old weights.
+#[derive(Clone)]
+pub struct Penalty {
+    pub w: Vec<f32>,
+    pub old: Vec<f32>,
+    pub batch: u64,
+    pub total: u64,
+    pub factor: f64,
+    pub spreads: Vec<f32>,
+    pub slots: Vec<f32>,
+}
+
 #[derive(Clone)]
 pub enum Case {
     Loss(Loss),
@@ -170,6 +182,7 @@ pub enum Case {
     Formula(Formula),
     Filling(Vec<f32>),
     Kernel(Kernel),
+    Penalty(Penalty),
     File(File),
 }
 
@@ -195,6 +208,7 @@ impl Case {
             Case::Formula(c) => FORMULAS[c.number],
             Case::Filling(_) => "check_and_fill_parameters",
             Case::Kernel(c) => KERNELS[c.number],
+            Case::Penalty(_) => "l2_penalty",
             Case::File(_) => "batch_file",
         }
     }

@@ -4,6 +4,7 @@ use crate::cases::{plain_bits, Case, File, Formula, Kernel, Loss, Outcome, Part,
 use crate::face::{self, UNWRITTEN_DOUBLE, UNWRITTEN_SINGLE};
 use crate::files;
 use crate::model;
+use crate::penalty;
 use crate::rules;
 use crate::tally::Tally;
 use std::panic::{catch_unwind, set_hook, take_hook, AssertUnwindSafe};
@@ -120,6 +121,13 @@ pub fn expected(case: &Case, tally: &mut Tally) -> Outcome {
         Case::File(c) => expected_file(c, tally),
         Case::Filling(given) => expected_filling(given, tally),
         Case::Kernel(c) => expected_kernel(c, tally),
+        Case::Penalty(c) => match penalty::refusal(c) {
+            0 => penalty::outcome(c, tally),
+            refusal => {
+                let slots = Part::singles("slots", c.slots.iter().copied()).untouched();
+                Outcome { refusal, parts: vec![unwritten("penalty", true, 1), slots] }
+            }
+        },
         Case::Step(c) => match rules::step_refusal(c) {
             0 => analytic::step_outcome(c, tally),
             refusal => {
@@ -141,6 +149,7 @@ pub fn ours(case: &Case) -> Outcome {
         Case::File(c) => face::file(c),
         Case::Filling(given) => face::filling(given),
         Case::Kernel(c) => face::kernel(c),
+        Case::Penalty(c) => face::penalty(c),
         Case::Step(c) => face::step(c),
         Case::Reverse(c) => face::reverse(c),
         Case::Formula(c) => face::formula(c),

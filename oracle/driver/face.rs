@@ -1,6 +1,6 @@
 // Our C functions (include/fsrs6.h) on the calls. What they may write stands between guards, and what they may not is
 // looked at again afterwards.
-use crate::cases::{File, Formula, Kernel, Loss, Outcome, Part, Reverse, Step, FIELDS, ON_DAY, WEIGHTS};
+use crate::cases::{File, Formula, Kernel, Loss, Outcome, Part, Penalty, Reverse, Step, FIELDS, ON_DAY, WEIGHTS};
 
 #[rustfmt::skip]
 extern "C" {
@@ -43,6 +43,7 @@ extern "C" {
     fn fsrs_card_loss_in(end: bool, w: *const f32, w_len: usize, t_hist: *const f32, t_hist_len: usize, r_hist: *const f32, r_hist_len: usize, seq_len: u32, batch: u32, seq_lens: *const u32, seq_lens_len: usize, labels: *const f32, labels_len: usize, weights: *const f32, weights_len: usize, loss: *mut f64) -> u32;
     fn fsrs_card_loss_and_grad_in(end: bool, w: *const f32, w_len: usize, t_hist: *const f32, t_hist_len: usize, r_hist: *const f32, r_hist_len: usize, seq_len: u32, batch: u32, seq_lens: *const u32, seq_lens_len: usize, labels: *const f32, labels_len: usize, weights: *const f32, weights_len: usize, gw: *mut f64, gw_len: usize, records: *mut f32, records_len: usize, step_grads: *mut f64, step_grads_len: usize, loss: *mut f64) -> u32;
 
+    fn fsrs_l2_penalty(w: *const f32, w_len: usize, init_w: *const f32, init_w_len: usize, batch_size: u64, total_size: u64, l2_weight: f64, params_stddev: *const f32, params_stddev_len: usize, slots: *mut f32, slots_len: usize, penalty: *mut f64) -> u32;
     fn fsrs_batch_file(file: *const u8, file_len: usize, gw: *mut f64, gw_len: usize, loss: *mut f64) -> u32;
 }
 
@@ -199,6 +200,18 @@ pub fn reverse(c: &Reverse) -> Outcome {
         )
     };
     Outcome { refusal, parts: vec![double_part("gradients", gradients), double_part("slots", gw)] }
+}
+
+pub fn penalty(c: &Penalty) -> Outcome {
+    let mut penalty = doubles(1);
+    let mut slots = Lent::new(&c.slots.iter().map(|x| x.to_bits()).collect::<Vec<_>>(), 0x5a5a_5a5a);
+    let refusal = unsafe {
+        fsrs_l2_penalty(
+            c.w.as_ptr(), c.w.len(), c.old.as_ptr(), c.old.len(), c.batch, c.total, c.factor, c.spreads.as_ptr(),
+            c.spreads.len(), slots.place(0), c.slots.len(), penalty.place(0),
+        )
+    };
+    Outcome { refusal, parts: vec![double_part("penalty", penalty), single_part("slots", slots)] }
 }
 
 pub fn formula(c: &Formula) -> Outcome {

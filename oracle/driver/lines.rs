@@ -6,8 +6,9 @@
 //     r    its reverse: the same, and three doubles
 //     f    a filling: a slice of singles
 //     k    a kernel: its number from 0, three patterns
+//     p    a penalty: the sizes, the factor, the old weights, the spreads and the slots, three slices of singles
 //     b    a batch file: its length, and its bytes as one word
-use crate::cases::{Case, File, Formula, Kernel, Loss, Outcome, Reverse, Step};
+use crate::cases::{Case, File, Formula, Kernel, Loss, Outcome, Penalty, Reverse, Step};
 use crate::compare::{digest, stored_loss};
 
 // ---- writing
@@ -70,6 +71,10 @@ pub fn lines(case: &Case, answer: Option<&Outcome>) -> String {
         }
         Case::Filling(given) => format!("f{}", singles(given)),
         Case::Kernel(c) => format!("k {:x} {:x} {:x} {:x}", c.number, c.args[0], c.args[1], c.args[2]),
+        Case::Penalty(c) => {
+            let sets = singles(&c.old) + &singles(&c.spreads) + &singles(&c.slots);
+            format!("{}\np {:x} {:x} {:016x}{sets}", weights_line(&c.w), c.batch, c.total, c.factor.to_bits())
+        }
         Case::File(c) => {
             let bytes: String = c.bytes.iter().map(|x| format!("{x:02x}")).collect();
             format!("{}\nb {:x} {bytes}", slots_line(&c.slots), c.bytes.len())
@@ -201,6 +206,15 @@ impl Reader {
                 let number = words.size();
                 Case::Kernel(Kernel { number, args: [words.number(), words.number(), words.number()] })
             }
+            'p' => Case::Penalty(Penalty {
+                w: self.w.clone(),
+                batch: words.number(),
+                total: words.number(),
+                factor: words.double(),
+                old: words.singles(),
+                spreads: words.singles(),
+                slots: words.singles(),
+            }),
             'b' => Case::File(File { bytes: words.bytes(), slots: self.slots.clone() }),
             _ => panic!("no such line: {line}"),
         };

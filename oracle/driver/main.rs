@@ -1,7 +1,7 @@
 // Holds our C functions to the Rust's own text, run over our kernels, with document 01's checks around it.
 //
 //     driver check SEED COUNT     compares generated calls, half as many losses at the end of their tables, each loss in
-//                                 both modes, and an eighth as many files
+//                                 both modes, a quarter as many penalties, and an eighth as many files
 //     driver stock SEED COUNT     measures distances; for a driver whose text was left as it is
 //     driver replay FILE...       compares the calls of FILE (lines.rs says what a line holds)
 //     driver vectors FILE...      compares the answers stored in FILE
@@ -17,6 +17,7 @@ mod generate;
 mod kernels;
 mod lines;
 mod model;
+mod penalty;
 mod random;
 mod rules;
 mod sample;
@@ -80,6 +81,9 @@ fn check(seed: u64, count: u64, tally: &mut Tally) {
     }
     for i in 0..count / 2 {
         run_modes(&Case::Loss(generate::loss_at_end(seed, i)), &format!("loss {i} at the end of seed {seed}"), tally);
+    }
+    for i in 0..count / 4 {
+        run(&Case::Penalty(penalty::some(seed, i)), &format!("penalty {i} of seed {seed}"), tally);
     }
     for i in 0..count / 8 {
         run(&Case::File(damage::file(seed, i)), &format!("file {i} of seed {seed}"), tally);

@@ -14,6 +14,10 @@ struct call {
     uint32_t whole_rating, seen, day_number;
     size_t row;
     double g_s, g_d, g_r;
+    float init_w[FSRS_WEIGHTS], spreads[FSRS_WEIGHTS];
+    size_t init_w_len, spreads_len;
+    uint64_t batch_size, total_size;
+    double l2_weight;
     uint32_t rows, columns, lengths[COLUMNS];
     float days[CELLS], ratings[CELLS], target_days[COLUMNS], labels[CELLS], weights[CELLS];
     size_t cells;
@@ -28,6 +32,9 @@ struct call {
     float records[FSRS_RECORD * ROWS];
     size_t records_len;
     double step_grads[ROWS], loss, grad_s, grad_d;
+    float slots[FSRS_WEIGHTS + 1];
+    size_t slots_len;
+    double penalty;
 };
 
 /* A call that every function accepts, over the default weights; what it may write is not zero. */
@@ -48,6 +55,11 @@ static struct call good(void) {
         .g_s = 1,
         .g_d = -2,
         .g_r = 0.5,
+        .init_w_len = FSRS_WEIGHTS,
+        .spreads_len = FSRS_WEIGHTS,
+        .batch_size = 10,
+        .total_size = 100,
+        .l2_weight = 2,
         .rows = ROWS,
         .columns = COLUMNS,
         .lengths = {ROWS, ROWS - 1},
@@ -66,12 +78,18 @@ static struct call good(void) {
         .loss = 9,
         .grad_s = 10,
         .grad_d = 11,
+        .slots_len = FSRS_WEIGHTS,
+        .penalty = 12,
     };
     fsrs_check_and_fill_parameters(&x.answer, 0, x.w);
     for (int i = 0; i < FSRS_WEIGHTS; i++) {
         x.filled[i] = (float)i;
         x.gw[i] = i;
+        x.slots[i] = (float)i;
+        x.spreads[i] = 1;
     }
+    memcpy(x.init_w, x.w, sizeof x.w);
+    x.slots[FSRS_WEIGHTS] = -7;
     return x;
 }
 
@@ -201,6 +219,11 @@ MODES(batch_grad)
 MODES(card)
 MODES(card_grad)
 
+static uint32_t penalty(struct call *x) {
+    return fsrs_l2_penalty(x->w, x->w_len, x->init_w, x->init_w_len, x->batch_size, x->total_size, x->l2_weight, x->spreads,
+                           x->spreads_len, x->slots, x->slots_len, &x->penalty);
+}
+
 static uint32_t file(struct call *x) {
     return fsrs_batch_file(x->file, x->file_len, x->gw, x->gw_len, &x->loss);
 }
@@ -255,6 +278,7 @@ static const struct function functions[] = {
     {"card_loss_in, end", card_at_end, CARD},
     {"card_loss_and_grad_in, start", card_grad_at_start, CARD | LENT},
     {"card_loss_and_grad_in, end", card_grad_at_end, CARD | LENT},
+    {"l2_penalty", penalty, FORMULA | SLOTS},
     {"batch_file", file, CARD_FILE},
 };
 
@@ -343,7 +367,7 @@ static void records_short(struct call *x) {
 }
 
 static void slots_short(struct call *x) {
-    x->gw_len = FSRS_WEIGHTS - 1;
+    x->gw_len = x->slots_len = FSRS_WEIGHTS - 1;
 }
 
 static void rating_beyond(struct call *x) {
@@ -367,7 +391,7 @@ static void prefix_empty(struct call *x) {
 }
 
 static void not_finite(struct call *x) {
-    x->stability = x->difficulty = x->ease = INFINITY;
+    x->stability = x->difficulty = x->ease = x->spreads[20] = INFINITY;
     x->whole_rating = 5;
 }
 
@@ -510,7 +534,114 @@ static void imports_refused(void) {
     expect_refused("20 weights, an ease and a retention", sm2, &x, FSRS_WEIGHT_COUNT);
 }
 
+static void expect_penalty(const char *name, struct call x, uint32_t number) {
+    expect_refused(name, penalty, &x, number);
+}
+
+/* 1, 2, 5 and 13, in this order, and all of them before a total of 0. */
+static void penalties_refused(void) {
+    struct call x = good();
+    x.total_size = 0;
+    const float spreads[] = {0, -0.0f, -1, -0x1p-149f, INFINITY, -INFINITY, NAN};
+    for (size_t i = 0; i < sizeof spreads / sizeof *spreads; i++) {
+        x.spreads[i * 3] = spreads[i];
+        expect_penalty("a spread out of range", x, FSRS_SCALAR);
+        x.spreads[i * 3] = 1;
+    }
+    const uint64_t beyond[] = {FSRS_MAX_SIZE + 1, UINT64_C(1) << 32, UINT64_C(1) << 63, UINT64_MAX};
+    for (size_t i = 0; i < sizeof beyond / sizeof *beyond; i++) {
+        x.batch_size = beyond[i];
+        expect_penalty("a batch size out of range", x, FSRS_SCALAR);
+        x.batch_size = 10;
+        x.total_size = beyond[i];
+        expect_penalty("a total out of range", x, FSRS_SCALAR);
+        x.total_size = 0;
+    }
+    x.spreads[20] = 0;
+    x.total_size = UINT64_MAX;
+    x.slots_len = FSRS_WEIGHTS + 1;
+    expect_penalty("22 slots, a spread and a total", x, FSRS_SLOT_COUNT);
+    x.slots_len = 0;
+    expect_penalty("no slots, a spread and a total", x, FSRS_SLOT_COUNT);
+    x.init_w[8] = -5.5f;
+    expect_penalty("an old weight, and slots", x, FSRS_WEIGHT_BOX);
+    x.init_w[8] = 0;
+    x.w[0] = NAN;
+    expect_penalty("a weight, and slots", x, FSRS_WEIGHT_BOX);
+    x.spreads_len = FSRS_WEIGHTS - 1;
+    expect_penalty("20 spreads, and a weight", x, FSRS_WEIGHT_COUNT);
+    x.spreads_len = FSRS_WEIGHTS;
+    x.init_w_len = 0;
+    expect_penalty("no old weights, and a weight", x, FSRS_WEIGHT_COUNT);
+    x.init_w_len = FSRS_WEIGHTS;
+    x.w_len = FSRS_WEIGHTS - 1;
+    expect_penalty("20 weights", x, FSRS_WEIGHT_COUNT);
+}
+
 /* ---- answers */
+
+static void expect_slots(const char *name, struct call *x, double wanted, float slot_4, float others) {
+    expect(penalty(x) == FSRS_ACCEPTED, "%s: refused", name);
+    expect_double(name, x->penalty, wanted);
+    for (int i = 0; i < FSRS_WEIGHTS; i++) {
+        expect_single(name, x->slots[i], i == 4 ? slot_4 : others);
+    }
+    expect_single("a slot that was not lent", x->slots[FSRS_WEIGHTS], -7);
+}
+
+/* The difference is 0.5 and the spread a power of 2, so that each number is known. Slots are written, and not added to. */
+static void penalties(void) {
+    struct call x = good();
+    x.init_w[4] = 6;
+    x.w[4] = 6.5f;
+    x.batch_size = 10;
+    x.total_size = 80;
+    expect_slots("a difference of 0.5", &x, 0.25 * 2 * 10 / 80, 2 * 0.5f * 2 * 10 / 80, 0);
+    expect_slots("the same over its own slots", &x, 0.25 * 2 * 10 / 80, 2 * 0.5f * 2 * 10 / 80, 0);
+    x.spreads[4] = 0.25f;
+    expect_slots("a spread of 0.25", &x, 4 * 0.25, 4, 0);
+    x.l2_weight = -2;
+    expect_slots("a negative factor", &x, -1, -4, -0.0f);
+    x.batch_size = 0;
+    expect_slots("a batch of 0 and a negative factor", &x, -0.0, -0.0f, -0.0f);
+    x.l2_weight = INFINITY;
+    expect_slots("a batch of 0 and an infinite factor", &x, 0, 0, 0);
+    const double factors[] = {2, -2, NAN, INFINITY, -INFINITY, 0, -0.0};
+    for (size_t i = 0; i < sizeof factors / sizeof *factors; i++) {
+        struct call y = x;
+        y.l2_weight = factors[i];
+        y.batch_size = 10;
+        y.total_size = 0;
+        expect_slots("a total of 0", &y, 0, 0, 0);
+    }
+    /* 3 * 1 / 10 is the double nearest to 0.3, and 3 * (1 / 10) is not */
+    x = good();
+    x.init_w[4] = 6;
+    x.w[4] = 7;
+    x.batch_size = 1;
+    x.total_size = 10;
+    x.l2_weight = 3;
+    expect_slots("the product first", &x, 0.3, 0.6f, 0);
+    /* a slot's finiteness is asked of the single: the double is 2^128, and the penalty stays */
+    x.batch_size = x.total_size = FSRS_MAX_SIZE;
+    x.l2_weight = 0x1p127;
+    expect_slots("a slot that is not finite", &x, 0x1p127, 0, 0);
+    x.l2_weight = 0x1p126;
+    expect_slots("a slot that is", &x, 0x1p126, 0x1p127f, 0);
+    /* the product overflows, though the quotient would not */
+    x.l2_weight = 0x1p1000;
+    expect_slots("a factor of 2^1000", &x, 0, 0, 0);
+    /* the scale is finite, and the penalty is not: +0.0 throughout, though the slots of equal weights would be -0.0 */
+    x.batch_size = x.total_size = 1;
+    x.init_w[4] = 5;
+    x.l2_weight = -0x1p1022;
+    expect_slots("a penalty that is not finite", &x, 0, 0, 0);
+    x.init_w[4] = 6;
+    expect_slots("a penalty that is", &x, -0x1p1022, 0, -0.0f);
+    x.spreads[4] = 0x1p-149f;
+    x.l2_weight = 1;
+    expect_slots("the smallest spread", &x, 0x1p298, 0, 0);
+}
 
 static void kernels(void) {
     expect_single("exp_f32(-0)", fsrs_exp_f32(-0.0f), 1);
@@ -946,6 +1077,8 @@ int main(void) {
     first_states_refused();
     days_refused();
     imports_refused();
+    penalties_refused();
+    penalties();
     kernels();
     kernels_refused();
     formulas();

@@ -1,4 +1,4 @@
-/* Runs lists of vectors through the C functions: lists ARITHMETIC STUDY STEP LOSSES.., files of crates/vectors/data. Their
+/* Runs lists of vectors through the C functions: lists ARITHMETIC STUDY STEP PENALTY LOSSES.., files of crates/vectors/data. Their
  * answers come from a second reading of the rules; the scripts in tools/vectors say what a line holds. Lines about what is no C
  * function are left out. After a refused call what was lent must have the bits that it had. */
 #include "../../include/fsrs6.h"
@@ -21,7 +21,8 @@ static size_t w_len, g_len;
 struct lent {
     float answers[FSRS_WEIGHTS], record[FSRS_RECORD];
     uint32_t day;
-    double grad_s, grad_d, loss, gw[SET];
+    double grad_s, grad_d, loss, penalty, gw[SET];
+    float slots[SET];
     float records[RECORDS];
     double step_grads[STEP_GRADS];
 };
@@ -300,6 +301,27 @@ static void loss_line(char letter) {
     }
 }
 
+/* ---- the pull toward the old weights */
+
+static void penalty_line(char letter) {
+    static struct slice old, spreads;
+    if (letter != 'P') {
+        return;
+    }
+    const uint64_t *at = take_slice(&spreads, take_slice(&old, words + 3));
+    size_t n = at[0] < SET ? (size_t)at[0] : SET;
+    for (size_t i = 0; i < SET; i++) {
+        lent.slots[i] = single_of(at[1] + i);
+    }
+    memcpy(&before, &lent, sizeof lent);
+    uint32_t refusal = fsrs_l2_penalty(w, w_len, old.at, old.n, words[0], words[1], double_of(words[2]), spreads.at,
+                                       spreads.n, lent.slots, n, &lent.penalty);
+    if (expect_refusal(refusal, at[2])) {
+        expect_doubles("penalty", &lent.penalty, at + 3, 1);
+        expect_singles("slot", lent.slots, at + 4, FSRS_WEIGHTS);
+    }
+}
+
 /* ---- the files */
 
 static void take_words(const char *text) {
@@ -337,14 +359,15 @@ static void run(const char *name, void (*try)(char)) {
 }
 
 int main(int argc, char **argv) {
-    if (argc < 5) {
-        fputs("usage: lists ARITHMETIC STUDY STEP LOSSES..\n", stderr);
+    if (argc < 6) {
+        fputs("usage: lists ARITHMETIC STUDY STEP PENALTY LOSSES..\n", stderr);
         return 2;
     }
     run(argv[1], arithmetic_line);
     run(argv[2], study_line);
     run(argv[3], step_line);
-    for (int i = 4; i < argc; i++) {
+    run(argv[4], penalty_line);
+    for (int i = 5; i < argc; i++) {
         run(argv[i], loss_line);
     }
     return finish();

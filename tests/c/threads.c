@@ -133,6 +133,18 @@ static void losses(struct round *x) {
     see_singles(x, records, FSRS_RECORD * ROWS);
 }
 
+static void penalty(struct round *x) {
+    float spreads[FSRS_WEIGHTS], slots[FSRS_WEIGHTS];
+    double penalty;
+    for (int i = 0; i < FSRS_WEIGHTS; i++) {
+        spreads[i] = between(x, 0.1f, 1);
+    }
+    accept(x, fsrs_l2_penalty(W, defaults, FSRS_WEIGHTS, any(x) % 512, 1 + any(x) % 10000, between(x, -1, 1), spreads,
+                              FSRS_WEIGHTS, slots, FSRS_WEIGHTS, &penalty));
+    see_doubles(x, &penalty, 1);
+    see_singles(x, slots, FSRS_WEIGHTS);
+}
+
 static void file(struct round *x) {
     uint32_t i = any(x) % FILES;
     double gw[FSRS_WEIGHTS], loss;
@@ -157,6 +169,7 @@ static struct round run_round(uint64_t number) {
     formulas(&x);
     steps(&x);
     losses(&x);
+    penalty(&x);
     file(&x);
     return x;
 }

@@ -1,4 +1,5 @@
-//! The scalar core of FSRS-6: kernels, formulas, the training step and the two losses, each proved to be its definition.
+//! The scalar core of FSRS-6: kernels, formulas, the training step, the two losses and a pull toward the old weights, each
+//! proved to be its definition.
 //!
 //! These are safe functions over the C library of `include/fsrs6.h`, one for each of its functions and under its name; a
 //! loss has one, and its batch tells the mode ([`Align`]). A call answers, or gives the [`Refusal`] by which it was refused
@@ -32,6 +33,7 @@
 mod formulas;
 mod kernels;
 mod losses;
+mod penalty;
 #[allow(unsafe_code)]
 mod raw;
 mod record;
@@ -49,6 +51,7 @@ pub use kernels::{
 pub use losses::{
     batch_file, batch_loss, batch_loss_and_grad, card_loss, card_loss_and_grad, Align, Cards, Gradient, Prefixes,
 };
+pub use penalty::l2_penalty;
 pub use record::{record, Branch, Record};
 pub use refusal::Refusal;
 pub use step::{training_step, training_step_backward, StateGradient, Step, Stepped};
@@ -101,6 +104,8 @@ pub const FILE_BYTES: usize = 65536;
 pub const FILE_ROWS: u32 = 512;
 /// The last day number ([`Seen`]).
 pub const MAX_DAY: u32 = 100000;
+/// The most that a batch size or a total of [`l2_penalty`] is: 2^31.
+pub const MAX_SIZE: u64 = 1 << 31;
 
 /// What the memory of a card is after a review. A card that has had none has no state: [`first_state`] gives its first.
 ///

@@ -211,6 +211,20 @@ mod c {
             step_grads_len: usize,
             loss: *mut f64,
         ) -> u32;
+        pub fn fsrs_l2_penalty(
+            w: *const f32,
+            w_len: usize,
+            init_w: *const f32,
+            init_w_len: usize,
+            batch_size: u64,
+            total_size: u64,
+            l2_weight: f64,
+            params_stddev: *const f32,
+            params_stddev_len: usize,
+            slots: *mut f32,
+            slots_len: usize,
+            penalty: *mut f64,
+        ) -> u32;
         pub fn fsrs_batch_file(file: *const u8, file_len: usize, gw: *mut f64, gw_len: usize, loss: *mut f64) -> u32;
     }
 }
@@ -420,6 +434,37 @@ losses! {
     card_loss = fsrs_card_loss_in(x: Cards, [labels, weights], []);
     card_loss_and_grad = fsrs_card_loss_and_grad_in(
         x: Cards, [labels, weights], [gw: f64, records: f32, step_grads: f64]);
+}
+
+pub fn l2_penalty(
+    w: &[f32],
+    init_w: &[f32],
+    batch_size: u64,
+    total_size: u64,
+    l2_weight: f64,
+    params_stddev: &[f32],
+    slots: &mut [f32],
+) -> Result<f64, Refusal> {
+    let mut penalty = 0.0;
+    // SAFETY: each pointer is a slice's and goes with that slice's length; slots is lent by &mut, and penalty is this
+    // function's.
+    let number = unsafe {
+        c::fsrs_l2_penalty(
+            w.as_ptr(),
+            w.len(),
+            init_w.as_ptr(),
+            init_w.len(),
+            batch_size,
+            total_size,
+            l2_weight,
+            params_stddev.as_ptr(),
+            params_stddev.len(),
+            slots.as_mut_ptr(),
+            slots.len(),
+            &mut penalty,
+        )
+    };
+    Refusal::accepted(number, penalty)
 }
 
 pub fn batch_file(file: &[u8], gw: &mut [f64]) -> Result<f64, Refusal> {

@@ -238,6 +238,54 @@ fn cards_from_sm2_are_refused() {
     refused(&w, f32::NAN, 5.0, 0.0, Refusal::WeightBox);
 }
 
+/// 1, 2, 5 and 13, in this order, and all of them before a total of 0.
+#[test]
+fn penalties_are_refused() {
+    let w = Call::good().w;
+    let good = [1.0; WEIGHTS];
+    let refused = |w: &[f32], old: &[f32], spreads: &[f32], slots: usize, sizes: (u64, u64), refusal| {
+        let mut lent = vec![7.0; slots];
+        assert_eq!(l2_penalty(w, old, sizes.0, sizes.1, 1.0, spreads, &mut lent), Err(refusal));
+        assert_eq!(lent, vec![7.0; slots], "{refusal}, and something was written");
+    };
+    for spread in [0.0, -0.0, -1.0, f32::INFINITY, f32::NEG_INFINITY, f32::NAN] {
+        let spreads = [&good[1..], &[spread]].concat();
+        refused(&w, &w, &spreads, WEIGHTS, (1, 0), Refusal::Scalar);
+        refused(&w, &w, &spreads, WEIGHTS - 1, (1, 0), Refusal::SlotCount);
+    }
+    for beyond in [MAX_SIZE + 1, 1 << 32, 1 << 63, u64::MAX] {
+        refused(&w, &w, &good, WEIGHTS, (beyond, 0), Refusal::Scalar);
+        refused(&w, &w, &good, WEIGHTS, (1, beyond), Refusal::Scalar);
+        refused(&w, &w, &good, WEIGHTS + 1, (1, beyond), Refusal::SlotCount);
+    }
+    let mut outside = w.clone();
+    outside[20] = 1.5;
+    refused(&outside, &w, &good, 0, (1, 1), Refusal::WeightBox);
+    refused(&w, &outside, &good, 0, (1, 1), Refusal::WeightBox);
+    refused(&outside, &w[..20], &good, 0, (1, 1), Refusal::WeightCount);
+    refused(&w[..20], &outside, &good, 0, (1, 1), Refusal::WeightCount);
+    refused(&outside, &outside, &good[..20], 0, (1, 1), Refusal::WeightCount);
+}
+
+/// Slots are written, and not added to; a total of 0 gives zeros, and so does a penalty that is not finite.
+#[test]
+fn penalties_pull_back() {
+    let old = Call::good().w;
+    let (mut w, mut slots) = (old.clone(), [7.0; WEIGHTS]);
+    w[4] = old[4] + 0.5;
+    let diff = f64::from(w[4]) - f64::from(old[4]);
+    for _ in 0..2 {
+        assert_eq!(l2_penalty(&w, &old, 1, 4, 1.0, &[1.0; WEIGHTS], &mut slots), Ok(diff * diff * 0.25));
+        assert_eq!(slots[4], (2.0 * diff * 0.25) as f32);
+        assert!(slots.iter().enumerate().all(|(i, x)| i == 4 || x.to_bits() == 0));
+    }
+    for (factor, total) in [(f64::NAN, 0), (f64::INFINITY, 0), (f64::INFINITY, 4), (f64::NAN, 4), (f64::MAX, 1)] {
+        let mut slots = [7.0; WEIGHTS];
+        assert_eq!(l2_penalty(&w, &old, 8, total, factor, &[1.0; WEIGHTS], &mut slots), Ok(0.0), "{factor} {total}");
+        assert!(slots.iter().all(|x| x.to_bits() == 0));
+    }
+}
+
 #[test]
 fn slots_sizes_and_room_are_refused() {
     refuse(&[STEP_BACKWARD, PREFIX_GRAD, CARD_GRAD], Refusal::SlotCount, |x| x.gw.truncate(20));

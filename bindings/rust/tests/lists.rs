@@ -123,6 +123,23 @@ fn study() {
     });
 }
 
+#[test]
+fn penalty() {
+    run("penalty", |letter, words, w, _| {
+        assert_eq!(letter, 'P');
+        let (batch, total, factor) = (words.number(), words.number(), f64::from_bits(words.number()));
+        let (old, spreads) = (words.singles(), words.singles());
+        let (n, first, refusal) = (words.number() as usize, words.number(), words.number());
+        let mut slots: Vec<f32> = (0..n as u64).map(|i| single(first + i)).collect();
+        let given: Vec<u64> = slots.iter().copied().map(single_bits).collect();
+        let is = outcome(l2_penalty(w, &old, batch, total, factor, &spreads, &mut slots), |x| vec![double_bits(x)]);
+        let left: Vec<u64> = slots.iter().copied().map(single_bits).collect();
+        let answer = words.rest();
+        let (value, want) = if refusal == 0 { (vec![answer[0]], answer[1..].to_vec()) } else { (vec![], given) };
+        Some(((is.0, [is.1, left].concat()), (refusal, [value, want].concat())))
+    });
+}
+
 /// The record as the list tells it: state, then day to outputs, branch, and the branch's numbers.
 fn record(a: &[u64]) -> Vec<u64> {
     let (branch, has_numbers) = match (a[20], a[23]) {

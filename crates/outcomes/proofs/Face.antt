@@ -35,6 +35,7 @@ use Rattle.fsrs6.proofs.cards.fsrs_card_loss_and_grad
 use Rattle.fsrs6.proofs.cards.fsrs_card_loss_and_grad_in
 use Rattle.fsrs6.proofs.cards.fsrs_card_loss
 use Rattle.fsrs6.proofs.cards.fsrs_card_loss_in
+use Rattle.fsrs6.proofs.penalty.fsrs_l2_penalty
 use Rattle.fsrs6.proofs.file.fsrs_batch_file
 
 -- fsrs6::arithmetic
@@ -145,6 +146,10 @@ one-fsrs-card-loss = one (λ κs a o c. c .0 ⨾ none ⨾ none ⨾ none ⨾ none
 
 pub one-fsrs-card-loss-in : One fsrs_card_loss_in.Kinds.ps fsrs_card_loss_in.Kinds.r fsrs_card_loss_in.Reads.Post
 one-fsrs-card-loss-in = one (λ κs a o c. c .0 ⨾ none ⨾ none ⨾ none ⨾ none ⨾ none ⨾ none ⨾ none ⨾ none ⨾ none ⨾ c .1 ⨾ end)
+
+-- fsrs6::penalty
+pub one-fsrs-l2-penalty : One fsrs_l2_penalty.Kinds.ps fsrs_l2_penalty.Kinds.r fsrs_l2_penalty.Reads.Post
+one-fsrs-l2-penalty = one (λ κs a o c. c .0 ⨾ none ⨾ none ⨾ none ⨾ none ⨾ none ⨾ none ⨾ c .2 ⨾ c .1 ⨾ end)
 
 -- fsrs6::file
 pub one-fsrs-batch-file : One fsrs_batch_file.Kinds.ps fsrs_batch_file.Kinds.r fsrs_batch_file.Reads.Post

@@ -8,6 +8,7 @@ use Rattle.analytic_v6.proofs.prefixes.grad_columns.batch_loss_and_grad_columns
 use Rattle.analytic_v6.proofs.prefixes.grad_columns.batch_loss_and_grad_columns_in
 use Rattle.analytic_v6.proofs.cards.grad_columns.card_loss_and_grad_columns
 use Rattle.analytic_v6.proofs.cards.grad_columns.card_loss_and_grad_columns_in
+use Rattle.training_v7.proofs.penalty.l2_penalty_value_and_grad
 use Rattle.batch.proofs.run_file
 use Rattle.fsrs6.proofs.study.fsrs_power_forgetting_curve
 use Rattle.fsrs6.proofs.study.fsrs_next_interval
@@ -32,6 +33,7 @@ use Rattle.fsrs6.proofs.cards.fsrs_card_loss_and_grad
 use Rattle.fsrs6.proofs.cards.fsrs_card_loss_and_grad_in
 use Rattle.fsrs6.proofs.cards.fsrs_card_loss
 use Rattle.fsrs6.proofs.cards.fsrs_card_loss_in
+use Rattle.fsrs6.proofs.penalty.fsrs_l2_penalty
 use Rattle.fsrs6.proofs.file.fsrs_batch_file
 
 -- These lend by `&mut` and have no refusal: what each leaves is stated by its contract, for every call.
@@ -59,6 +61,10 @@ kept-card-loss-and-grad-columns = keeps (λ κs a o c. ap (λ z. z .refusal) (c 
 
 pub kept-card-loss-and-grad-columns-in : Kept card_loss_and_grad_columns_in.Kinds.ps card_loss_and_grad_columns_in.Kinds.r (λ κs a z. z .refusal) (λ κs e. e) card_loss_and_grad_columns_in.Reads.Post
 kept-card-loss-and-grad-columns-in = keeps (λ κs a o c. ap (λ z. z .refusal) (c .0)) (λ κs a o c h. still ⨾ still ⨾ still ⨾ still ⨾ still ⨾ still ⨾ still ⨾ still ⨾ still ⨾ back (c .1 .0 ∙ search refused) ⨾ back (c .1 .1 ∙ search refused) ⨾ back (c .1 .2 ∙ search refused) ⨾ end)
+
+-- training_v7::penalty
+pub kept-l2-penalty-value-and-grad : Kept l2_penalty_value_and_grad.Kinds.ps l2_penalty_value_and_grad.Kinds.r (λ κs a z. z .refusal) (λ κs e. e) l2_penalty_value_and_grad.Reads.Post
+kept-l2-penalty-value-and-grad = keeps (λ κs a o c. ap (λ z. z .refusal) (c .0)) (λ κs a o c h. still ⨾ still ⨾ still ⨾ still ⨾ still ⨾ still ⨾ back (c .1 ∙ search refused) ⨾ end)
 
 -- batch
 pub kept-run-file : Kept run_file.Kinds.ps run_file.Kinds.r (λ κs a z. z .refusal) (λ κs e. e) run_file.Reads.Post
@@ -138,6 +144,10 @@ kept-fsrs-card-loss = keeps (λ κs a o c. c .0) (λ κs a o c h. still ⨾ stil
 
 pub kept-fsrs-card-loss-in : Kept fsrs_card_loss_in.Kinds.ps fsrs_card_loss_in.Kinds.r (λ κs a n. n) (λ κs e. e) fsrs_card_loss_in.Reads.Post
 kept-fsrs-card-loss-in = keeps (λ κs a o c. c .0) (λ κs a o c h. still ⨾ still ⨾ still ⨾ still ⨾ still ⨾ still ⨾ still ⨾ still ⨾ still ⨾ back (c .1 ∙ search refused) ⨾ end)
+
+-- fsrs6::penalty
+pub kept-fsrs-l2-penalty : Kept fsrs_l2_penalty.Kinds.ps fsrs_l2_penalty.Kinds.r (λ κs a n. n) (λ κs e. e) fsrs_l2_penalty.Reads.Post
+kept-fsrs-l2-penalty = keeps (λ κs a o c. c .0) (λ κs a o c h. still ⨾ still ⨾ still ⨾ still ⨾ still ⨾ still ⨾ back (c .2 ∙ search refused) ⨾ back (c .1 ∙ search refused) ⨾ end)
 
 -- fsrs6::file
 pub kept-fsrs-batch-file : Kept fsrs_batch_file.Kinds.ps fsrs_batch_file.Kinds.r (λ κs a n. n) (λ κs e. e) fsrs_batch_file.Reads.Post

@@ -1,4 +1,4 @@
--- One outcome: the losses, their checks, tables and records, and the batch file. A line for each function: its answer, then each parameter in turn. Assumes nothing.
+-- One outcome: the losses, their checks, tables and records, the pull toward the old weights, and the batch file. A line for each function: its answer, then each parameter in turn. Assumes nothing.
 use Rattle.outcomes.specs.Outcome.{One, one}
 use Rattle.outcomes.proofs.Tuples.{_⨾_, none, end}
 use Rattle.soft.proofs.flags.either
@@ -40,6 +40,7 @@ use Rattle.analytic_v6.proofs.cards.grad_columns.card_loss_and_grad_columns
 use Rattle.analytic_v6.proofs.cards.grad_columns.card_loss_and_grad_columns_in
 use Rattle.analytic_v6.proofs.cards.loss.card_loss
 use Rattle.analytic_v6.proofs.cards.loss.card_loss_in
+use Rattle.training_v7.proofs.penalty.l2_penalty_value_and_grad
 use Rattle.batch.proofs.run_file
 
 -- soft::flags
@@ -175,6 +176,10 @@ one-card-loss = one (λ κs a o c. c ⨾ none ⨾ none ⨾ none ⨾ none ⨾ non
 
 pub one-card-loss-in : One card_loss_in.Kinds.ps card_loss_in.Kinds.r card_loss_in.Reads.Post
 one-card-loss-in = one (λ κs a o c. c ⨾ none ⨾ none ⨾ none ⨾ none ⨾ none ⨾ none ⨾ none ⨾ none ⨾ none ⨾ end)
+
+-- training_v7::penalty
+pub one-l2-penalty-value-and-grad : One l2_penalty_value_and_grad.Kinds.ps l2_penalty_value_and_grad.Kinds.r l2_penalty_value_and_grad.Reads.Post
+one-l2-penalty-value-and-grad = one (λ κs a o c. c .0 ⨾ none ⨾ none ⨾ none ⨾ none ⨾ none ⨾ none ⨾ c .1 ⨾ end)
 
 -- batch
 pub one-run-file : One run_file.Kinds.ps run_file.Kinds.r run_file.Reads.Post

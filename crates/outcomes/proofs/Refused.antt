@@ -19,6 +19,7 @@ use Rattle.checks.specs.Batch.{Prefixes, Cards}
 use Rattle.columns.specs.Records.{roomDef}
 use Rattle.analytic_v6.specs.Prefixes.{batchLossAndGrad, batchSlots, batchSteps, batchRecords}
 use Rattle.analytic_v6.specs.Cards.{cardsLossAndGrad, cardsSlots, cardsSteps, cardsRecords, cardsGrads}
+use Rattle.training_v7.specs.Penalty.{penaltyAnswer, penaltySlots}
 use Rattle.batch.specs.Header.{sectionsOf, wellFormed}
 use Rattle.batch.specs.declared.header.Header.{Header}
 use Rattle.batch.specs.File.{prefixLossIn, prefixSlotsIn, cardLossIn, cardSlotsIn, callLoss, callSlots, cellsOf, lengthsOf, fileLoss, fileSlots}
@@ -84,6 +85,14 @@ module _ (w : List Float) (x : Cards) where
   unfolding cardsLossAndGrad cardsGrads answer
   card-grads gw records grads h = rw (ne-eqb _ 0 h)
 
+-- ---- the pull toward the old weights
+pub penalty-slots :
+    (w v : List Float) (batch-size total-size : ℕ) (l2-weight : Float) (s slots : List Float)
+    → (penaltyAnswer w v batch-size total-size l2-weight s (length slots) .refusal ≡ 0 → ⊥)
+    → penaltySlots w v batch-size total-size l2-weight s slots ≡ slots
+unfolding penaltyAnswer penaltySlots
+penalty-slots w v batch-size total-size l2-weight s slots h = rw (ne-eqb _ 0 h)
+
 -- ---- a batch file
 module _ (h : Header) (cells : List Float) (lens : List ℕ) (gw : List Float) where
   prefix-in : (prefixLossIn h cells lens (length gw) .refusal ≡ 0 → ⊥) → prefixSlotsIn h cells lens gw ≡ gw
@@ -112,4 +121,4 @@ pub file-slots : (file : List ℕ) (gw : List Float) → (fileLoss file (length 
 unfolding fileLoss fileSlots
 file-slots file gw k = of-form (sectionsOf file) (cellsOf file) (lengthsOf file) gw (wellFormed file) _ k
 
-pub ruleset refused = (place, numbers, reverse-slots, prefix-slots, prefix-steps, prefix-records, card-slots, card-steps, card-records, card-grads, file-slots)
+pub ruleset refused = (place, numbers, reverse-slots, prefix-slots, prefix-steps, prefix-records, card-slots, card-steps, card-records, card-grads, penalty-slots, file-slots)

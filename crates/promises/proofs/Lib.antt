@@ -7,6 +7,7 @@ pub mod Aligned
 pub mod Carried
 pub mod Imported
 pub mod Layouts
+pub mod Pulled
 pub mod Weightless
 pub mod Twelve
 pub mod Promises

@@ -8,6 +8,7 @@ use Rattle.promises.proofs.Twelve.{twelve}
 use Rattle.promises.proofs.Frozen.{demand3}
 use Rattle.promises.proofs.Imported.{imported}
 use Rattle.promises.proofs.Layouts.{two-layouts}
+use Rattle.promises.proofs.Pulled.{pulled}
 
 pub promises : Promises
-promises = record { distances = kernels; twelve-values = twelve; frozen-weights = demand3; exp-less-one = minus; from-sm2 = imported; aligned-at-the-end = aligned; last-seen = carried; both-layouts = two-layouts }
+promises = record { distances = kernels; twelve-values = twelve; frozen-weights = demand3; exp-less-one = minus; from-sm2 = imported; aligned-at-the-end = aligned; last-seen = carried; both-layouts = two-layouts; toward-the-old-weights = pulled }

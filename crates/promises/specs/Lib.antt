@@ -4,6 +4,7 @@ pub mod Carried
 pub mod Frozen
 pub mod Imported
 pub mod Layouts
+pub mod Pulled
 pub mod LossCalls
 pub mod Promises
 pub mod Twelve

@@ -8,6 +8,7 @@ use Rattle.promises.specs.Twelve.{Twelve}
 use Rattle.promises.specs.Frozen.{Demand3}
 use Rattle.promises.specs.Imported.{Imported}
 use Rattle.promises.specs.Layouts.{TwoLayouts}
+use Rattle.promises.specs.Pulled.{Pulled}
 
 pub record Promises : Type 0 where
   -- demand 2: exp, ln and pow 'lie within document 01's distances of its exact fractions', in single and in double (laws/specs/Distances.antt)
@@ -25,3 +26,5 @@ pub record Promises : Type 0 where
   pub last-seen : Carried
   -- change request K10: the step records as a slice of records and as plain columns (Layouts.antt)
   pub both-layouts : TwoLayouts
+  -- change request K13: a pull toward the old weights is finite, and its slots are its own (Pulled.antt)
+  pub toward-the-old-weights : Pulled

@@ -7,6 +7,7 @@ mod digests;
 mod line;
 mod losses;
 mod patterns;
+mod penalty;
 mod slices;
 mod steps;
 mod study;
@@ -30,6 +31,7 @@ enum Kind {
     Study,
     Step,
     Losses,
+    Penalty,
 }
 
 // No list has so many bytes, and no line more words.
@@ -47,6 +49,7 @@ fn is_call(kind: Kind, letter: u8, k: &[u64; 640], n: usize) -> bool {
         Kind::Study => study::is_call(letter, n),
         Kind::Step => steps::is_call(letter, k, n),
         Kind::Losses => losses::is_call(k, n),
+        Kind::Penalty => penalty::is_call(k, n),
     }
 }
 
@@ -64,6 +67,7 @@ fn call_passes(
         Kind::Study => study::passes(letter, k, w),
         Kind::Step => steps::passes(letter, k, w, slots),
         Kind::Losses => losses::passes(letter, k, w, slots),
+        Kind::Penalty => penalty::passes(k, w),
     }
 }
 
@@ -202,4 +206,10 @@ fn main() {
     run_losses(b"losses");
     run_losses(b"aligned");
     run_losses(b"rust");
+    run_list(
+        Kind::Penalty,
+        b"penalty",
+        b"P",
+        b"l2_penalty_value_and_grad malformed ",
+    );
 }
