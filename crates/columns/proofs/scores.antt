@@ -1,4 +1,5 @@
 pub mod Literals
+pub mod Ends
 pub mod Settled
 pub mod Zeros
 pub mod Logs

@@ -1,3 +1,4 @@
 pub mod Distances
 pub mod Agreement
 pub mod Values
+pub mod Ranges

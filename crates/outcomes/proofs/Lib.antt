@@ -10,3 +10,4 @@ pub mod Face
 pub mod Kept
 pub mod Frozen
 pub mod Walked
+pub mod Finite

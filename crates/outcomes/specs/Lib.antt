@@ -1,3 +1,4 @@
+pub mod FiniteEntries
 pub mod FrozenEntries
 pub mod Outcome
 pub mod Walked

@@ -2,6 +2,7 @@
 pub mod reading
 pub mod shifting
 pub mod stepping
+pub mod Finite
 pub mod Frozen
 pub mod Aligned
 pub mod Carried

@@ -1,6 +1,7 @@
 pub mod Aligned
 pub mod CallReads
 pub mod Carried
+pub mod Finite
 pub mod Frozen
 pub mod Imported
 pub mod Layouts

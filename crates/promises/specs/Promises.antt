@@ -2,8 +2,10 @@
 -- crates/outcomes says of the contracts themselves. Assumes nothing.
 use lib.Ieee.{Format}
 use Rattle.laws.specs.Distances.{Kernels, Minus}
+use Rattle.laws.specs.KernelCalls.{Ties}
 use Rattle.promises.specs.Aligned.{Aligned}
 use Rattle.promises.specs.Carried.{Carried}
+use Rattle.promises.specs.Finite.{NoSilentNaNs}
 use Rattle.promises.specs.Twelve.{Twelve}
 use Rattle.promises.specs.Frozen.{Demand3}
 use Rattle.promises.specs.Imported.{Imported}
@@ -28,3 +30,6 @@ pub record Promises : Type 0 where
   pub both-layouts : TwoLayouts
   -- change request K13: a pull toward the old weights is finite, and its slots are its own (Pulled.antt)
   pub toward-the-old-weights : Pulled
+  -- change request K14: no silent NaN in the forward pass of an accepted loss call (Finite.antt), whose kernel calls are those of the formulas (laws/specs/KernelCalls.antt)
+  pub no-silent-nan : NoSilentNaNs
+  pub kernel-calls : Ties

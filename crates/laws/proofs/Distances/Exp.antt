@@ -48,7 +48,7 @@ next n d z = omega (arith, lt-div-mul-add {a = n} z)
 below : (s b p r : ℕ) → zero < b → s ≤ r * b → s * p / b ≤ r * p
 below s b p r z l = le-of-mul-le-mul-right {k = b} (omega (arith, div-mul-le-self (s * p) b, mul-le-mul-right p l)) z
 
-turns-hi : (f : Format) (s b : ℕ) → turns f s b * (N * b) ≤ 2 ^ 116 * s
+pub turns-hi : (f : Format) (s b : ℕ) → turns f s b * (N * b) ≤ 2 ^ 116 * s
 unfolding turns
 turns-hi binary32 s b = single-hi s b (s * (2 ^ 103 / N * 2 ^ 13) / b) (2 ^ 103 / N * 2 ^ 13) N (2 ^ 116) (div-mul-le-self (s * (2 ^ 103 / N * 2 ^ 13)) b) (lit≤ tt)
 turns-hi binary64 s b =

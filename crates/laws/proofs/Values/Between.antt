@@ -37,7 +37,7 @@ between-size k (fin s n d) (inf false) (fin t p c) a b g h = absurd h
 between-size k (fin s n d) (fin true m e) (fin t p c) a b g h = cancel k (m * up e) (down e) (n * up d) (down d) (down-pos d) (left s (n * up d * down e) (m * up e * down d) g) a
 between-size k (fin s n d) (fin false m e) (fin t p c) a b g h = cancel k (m * up e) (down e) (p * up c) (down c) (down-pos c) (right t (m * up e * down c) (p * up c * down e) h) b
 
-least-of : (j : ℕ) (lo x : Float) → T (positive lo) → T (positive x) → T (le lo x) → Least j lo → Least j x
+pub least-of : (j : ℕ) (lo x : Float) → T (positive lo) → T (positive x) → T (le lo x) → Least j lo → Least j x
 least-of j lo x p q h g =
     le-of-mul-le-mul-right
     (le-trans (mul-le-mul-left (den x) g)

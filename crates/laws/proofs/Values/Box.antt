@@ -49,7 +49,7 @@ every test n k w h e = go (test k (w ! k)) refl
     go false q = absurd (true≢false (sym e ∙ miss test n k w h q))
 
 module _ (w : List Float) (h : weightsRefusal w ≡ 0) where
-  inside : (k : ℕ) → k < 21 → T (inBox k (w ! k))
+  pub inside : (k : ℕ) → k < 21 → T (inBox k (w ! k))
   inside k l = holds (every inBox 21 k w l (accepted-box w h))
 
   pub weight-size : (k : ℕ) → k < 21 → Size (getD sizes k 0) (w ! k)

@@ -33,7 +33,7 @@ ln-nine : ln32 (decimal 9 10) ≡ fin true 14141253 (negsuc 26)
 unfolding lnDef logarithm below24 firstFrom gap63 low63 entry P taylor fact decimal
 ln-nine = refl
 
-neg-least : (j : ℕ) (y : Float) → T (positive y) → Least j y → T (finite (neg y)) × Least j (neg y)
+pub neg-least : (j : ℕ) (y : Float) → T (positive y) → Least j y → T (finite (neg y)) × Least j (neg y)
 unfolding neg
 neg-least j nan p h = absurd p
 neg-least j (inf s) p h = absurd p
@@ -44,7 +44,7 @@ yes true b t = tt
 yes false b t = absurd t
 
 -- a decay is not above 0
-decay-low : (y : Float) → T (positive y) → T (le (neg y) (fin false 0 (pos 0)))
+pub decay-low : (y : Float) → T (positive y) → T (le (neg y) (fin false 0 (pos 0)))
 unfolding le neg
 decay-low nan p = absurd p
 decay-low (inf s) p = absurd p
@@ -63,7 +63,7 @@ module _ (y : Float) (p : T (positive y)) (u : Size 0 y) (l : Least 4 y) where
   arg-size = let n = neg-least 4 y p l in div-size 0 4 (fin true 14141253 (negsuc 26)) (neg y) (lit< tt) (lit≤ tt) (n .0) (n .1)
 
   grown : Size 24 (exp32 argument)
-  grown = exp-size 4 24 argument (lit< tt) (lit< tt) (lit< tt) arg-size
+  grown = exp-size 4 24 argument (lit< tt) (lit< tt) arg-size
 
   at-least : T (le unit (exp32 argument))
   at-least = go argument (size-finite 4 argument arg-size) (both-negative 14141253 (negsuc 26) y p)
@@ -78,13 +78,13 @@ module _ (y : Float) (p : T (positive y)) (u : Size 0 y) (l : Least 4 y) where
   unfolding curveFactor
   factor-is = rw (ln-nine, one-is)
 
-  factor-size : Size 25 (curveFactor (neg y))
+  pub factor-size : Size 25 (curveFactor (neg y))
   factor-size = subst (Size 25) (sym factor-is) (sub-size 24 (exp32 argument) unit (lit< tt) grown (lit≤ tt))
 
-  factor-plus : T (plus (curveFactor (neg y)))
+  pub factor-plus : T (plus (curveFactor (neg y)))
   factor-plus = subst (λ (x : Float). T (plus x)) (sym factor-is) (less-one (exp32 argument) (size-finite 24 (exp32 argument) grown) (plus-exp argument) at-least)
 
-  decay-in : T (powered (neg y))
+  pub decay-in : T (powered (neg y))
   decay-in = in-reach (neg y) (wider 0 4 (neg y) (lit≤ tt) (neg-size 0 y u))
 
   -- ---- the curve, at a stability s

@@ -1,6 +1,7 @@
--- The difficulty of a rating of 3 with weight 7 zero: unchanged. Assumes nothing.
+-- How large a first difficulty is, and the difficulty of a rating of 3 with weight 7 zero: unchanged. Assumes nothing.
 use mathlib.Core.Path.{_≡_, ap, _∙_}
 use mathlib.Core.Bool.{true, false}
+use Prim.Native.Nat.{ℕ}
 use lib.Dec.{T, lit<, lit≤}
 use lib.IntN.{pos}
 use lib.Ieee.{Float, nan, inf, fin, binary32, ofBits, ofInt, fits, neg}
@@ -17,7 +18,7 @@ use Rattle.laws.proofs.Values.Powers.{exp-size}
 use Rattle.laws.proofs.Values.Zeros.{Zero, times-zero, zero-times, zero-over}
 use Rattle.laws.proofs.Values.Ones.{three-less}
 
-offset-size : Size 2 (ratingOffset 4)
+pub offset-size : Size 2 (ratingOffset 4)
 unfolding ofInt
 offset-size = lit≤ tt
 
@@ -25,15 +26,23 @@ one-size : Size 25 one
 unfolding ofBits
 one-size = lit≤ tt
 
--- that of a first rating of 4: w4 - exp(3 w5) + 1
-pub easy-size : (w4 w5 : Float) → Size 5 w4 → Size 2 w5 → Size 26 (initDifficulty w4 w5 4)
-unfolding initDifficulty
-easy-size w4 w5 a b =
-    let x = w5 *ᶠ ratingOffset 4 in
-    add-size 25 (w4 -ᶠ exp32 x) one (lit< tt)
-    (sub-size 24 w4 (exp32 x) (lit< tt) (wider 5 24 w4 (lit≤ tt) a) (exp-size 4 24 x (lit< tt) (lit< tt) (lit< tt) (mul-size 2 2 w5 (ratingOffset 4) (lit< tt) b offset-size))) one-size
+-- that of a first rating: w4 - exp(offset w5) + 1
+pub init-exp-size : (w5 : Float) (rating : ℕ) → Size 2 (ratingOffset rating) → Size 2 w5 → Size 24 (exp32 (w5 *ᶠ ratingOffset rating))
+init-exp-size w5 rating o b =
+    let x = w5 *ᶠ ratingOffset rating in
+    exp-size 4 24 x (lit< tt) (lit< tt) (mul-size 2 2 w5 (ratingOffset rating) (lit< tt) b o)
 
-ten-size : Size 4 ten
+pub init-size : (w4 w5 : Float) (rating : ℕ) → Size 2 (ratingOffset rating) → Size 5 w4 → Size 2 w5 → Size 26 (initDifficulty w4 w5 rating)
+unfolding initDifficulty
+init-size w4 w5 rating o a b =
+    let x = w5 *ᶠ ratingOffset rating in
+    add-size 25 (w4 -ᶠ exp32 x) one (lit< tt)
+    (sub-size 24 w4 (exp32 x) (lit< tt) (wider 5 24 w4 (lit≤ tt) a) (init-exp-size w5 rating o b)) one-size
+
+pub easy-size : (w4 w5 : Float) → Size 5 w4 → Size 2 w5 → Size 26 (initDifficulty w4 w5 4)
+easy-size w4 w5 a b = init-size w4 w5 4 offset-size a b
+
+pub ten-size : Size 4 ten
 unfolding ofBits
 ten-size = lit≤ tt
 

@@ -312,7 +312,7 @@ over-decay (fin false (suc m) e) p =
     (neg-low (round binary32 false (1 * 1 * down e) (suc m * up e * 1)) (plus-round binary32 (1 * 1 * down e) (suc m * up e * 1)) (round-not-nan binary32 false (1 * 1 * down e) (suc m * up e * 1))))
 
 -- ---- 0.9 to a power that is not above 0 is 1 or more
-nine-is : decimal 9 10 ≡ fin false 7549747 (negsuc 22)
+pub nine-is : decimal 9 10 ≡ fin false 7549747 (negsuc 22)
 unfolding decimal
 nine-is = refl
 
@@ -365,7 +365,7 @@ by-power x y Q n h = go (powered y) refl
     go true e = h (holds e)
     go false e = subst Q (sym (is-nan (pow32 x y) (pow-nan binary32 x y ∙ ap (λ (b : Bool). not (positive x && b)) e ∙ ap not (and-false (positive x))))) n
 
-factor-plus : (v : Float) → T (above0 v) → T (plus (factorDef (neg v)))
+pub factor-plus : (v : Float) → T (above0 v) → T (plus (factorDef (neg v)))
 unfolding factorDef
 factor-plus v p =
     let y = one /ᶠ neg v in

@@ -53,11 +53,11 @@ module _ (w11 w12 w13 w14 divisor : Float) (last : State) (r : Float) (a : Size 
   abbrev share : Float
   share = pow32 (last .d) (neg w12)
 
-  share-size : Size 34 share
-  share-size = pow-of (last .d) (neg w12) (q .above-d) (q .single-d) (wider 4 16 (last .d) (lit≤ tt) (q .size-d)) (q .least-d) (neg-size 0 w12 b)
+  share-size : Size 22 share
+  share-size = pow-of (last .d) (neg w12) (q .above-d) (wider 4 16 (last .d) (lit≤ tt) (q .size-d)) (q .least-d) (neg-size 0 w12 b)
 
-  begun-size : Size 38 (w11 *ᶠ share)
-  begun-size = mul-size 4 34 w11 share (lit< tt) a share-size
+  begun-size : Size 26 (w11 *ᶠ share)
+  begun-size = mul-size 4 22 w11 share (lit< tt) a share-size
 
   begun-plus : T (plus (w11 *ᶠ share))
   begun-plus = plus-mul w11 share (plus-of w11 a+) (plus-pow (last .d) (neg w12))
@@ -74,14 +74,14 @@ module _ (w11 w12 w13 w14 divisor : Float) (last : State) (r : Float) (a : Size 
   urge = exp32 ((one -ᶠ r) *ᶠ w14)
 
   urge-size : Size 24 urge
-  urge-size = rw one-is (exp-size 4 24 ((unit -ᶠ r) *ᶠ w14) (lit< tt) (lit< tt) (lit< tt) (mul-size 1 3 (unit -ᶠ r) w14 (lit< tt) (sub-size 0 unit r (lit< tt) (lit≤ tt) hr) e))
+  urge-size = rw one-is (exp-size 4 24 ((unit -ᶠ r) *ᶠ w14) (lit< tt) (lit< tt) (mul-size 1 3 (unit -ᶠ r) w14 (lit< tt) (sub-size 0 unit r (lit< tt) (lit≤ tt) hr) e))
 
   lapse-raw : lapseRaw w11 w12 w13 w14 (last .s) (last .d) r ≡ fin false 0 (pos 0)
   unfolding lapseRaw
   lapse-raw =
       let z = fin false 0 (pos 0) in
       let f = w11 *ᶠ share in
-      let t = times-zero f z (size-finite 38 f begun-size) (false, refl) in
+      let t = times-zero f z (size-finite 26 f begun-size) (false, refl) in
       ap (λ (x : Float). f *ᶠ x *ᶠ urge) gained
       ∙ plus-zero (f *ᶠ z *ᶠ urge) (zero-times (f *ᶠ z) urge t (size-finite 24 urge urge-size))
       (plus-mul (f *ᶠ z) urge (plus-mul f z begun-plus tt) (plus-exp ((one -ᶠ r) *ᶠ w14)))

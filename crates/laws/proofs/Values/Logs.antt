@@ -1,54 +1,54 @@
--- The logarithm behind pow, of a single from 2 ^ -14 to 2 ^ 16, is below 34 ln 2 in size, and an exponent of at most 16 in size is in pow's domain. Assumes nothing.
+-- The logarithm behind pow, of a single from 2 ^ -c to 2 ^ c, is below (c + 6) ln 2 in size, and ln of it below c + 5; an exponent of at most 16 in size is in pow's domain. Assumes nothing.
 use mathlib.Core.Path.{_≡_, sym, subst}
 use mathlib.Core.Bool.{Bool, true, false, _&&_, _||_, cond}
 use mathlib.Core.Logic.{inl, inr}
-use Prim.Native.Nat.{ℕ, suc, _+_, _-_, _*_, _^_, _≤_, _<_}
-use native.Mathlib.Nat.{le-trans, le-of-eq, lt-of-le-of-lt, lt-of-lt-of-le, eq-or-lt-of-le, mul-one, mul-le-mul-right, zero-lt-suc}
+use Prim.Native.Nat.{ℕ, zero, suc, _+_, _-_, _*_, _^_, _≤_, _<_}
+use native.Mathlib.Nat.{le-trans, le-of-eq, lt-of-le-of-lt, lt-of-lt-of-le, eq-or-lt-of-le, mul-one, mul-le-mul-right, mul-lt-mul-of-pos-right, zero-lt-suc}
 use native.Mathlib.Omega.{arith}
 use lib.Dec.{T, ltb, eqb, ltb→lt, lt→ltb}
 use lib.IntN.{ℤ, pos, negsuc, natAbs, _+ℤ_}
-use lib.Pow.{pow-add}
-use lib.Ieee.{Float, nan, inf, fin, binary32, size, up, down, fits, le}
+use lib.Pow.{pow-add, pow-pos}
+use lib.Ieee.{Float, nan, inf, fin, binary32, size, up, down, le}
 use lib.Ieee.Digits.{size-lt, size-reaches}
 use lib.Ieee.Fits.{and-i, eq→eqb, down-pos}
-use Rattle.kernels.specs.Logarithm.{binade, stepLog}
-use Rattle.kernels.specs.Kernels.{powered}
-use Rattle.kernels.proofs.Definitions.Sizes.{step-most}
+use lib.Ieee.Positive.{positive}
+use Rattle.table.specs.Whole.{below0}
+use Rattle.kernels.specs.Calls.{ln32}
+use Rattle.kernels.specs.Logarithm.{binade, logarithm, stepLog}
+use Rattle.kernels.specs.Kernels.{powered, lnDef}
+use Rattle.kernels.proofs.Definitions.Sizes.{log-most, step-most}
 use Rattle.soft.proofs.Rounding.Pattern.{pow-lt-back, pow-le-back}
-use Rattle.laws.proofs.Values.Sizes.{Size}
+use Rattle.laws.proofs.Values.Sizes.{Size, round-size}
 use Rattle.laws.proofs.Values.Operations.{Least}
 
 -- ---- the exponent of the leading digit
-split : (b a : ℕ) (t : Bool) → (T t → b < suc a) → b ≤ 16 + suc a → suc a ≤ b + 14 → natAbs (cond t (negsuc (suc a - suc b)) (pos (b - suc a))) ≤ 16
-split b a true l p q = less b a (l tt) q
+split : (c b a : ℕ) (t : Bool) → (T t → b < suc a) → b ≤ c + suc a → suc a ≤ b + c → natAbs (cond t (negsuc (suc a - suc b)) (pos (b - suc a))) ≤ c
+split c b a true l p q = less c b a (l tt) q
   where
-    less : (b a : ℕ) → b < suc a → suc a ≤ b + 14 → suc (suc a - suc b) ≤ 16
-    less b a l q = omega arith
-split b a false l p q = omega arith
+    less : (c b a : ℕ) → b < suc a → suc a ≤ b + c → suc (suc a - suc b) ≤ c
+    less c b a l q = omega arith
+split c b a false l p q = omega arith
 
 -- b is the place of the leading digit: 2 ^ b ≤ m < 2 ^ (b + 1)
-near : (m : ℕ) (e : ℤ) (b : ℕ) → 2 ^ b ≤ m → m < 2 ^ (b + 1) → m * up e ≤ 2 ^ 16 * down e → down e ≤ m * up e * 2 ^ 14 → natAbs (e +ℤ pos b) ≤ 16
-near m (pos a) b lo hi u d =
-    turn a b (pow-le-back (b + a) 16 (le-trans (le-of-eq (pow-add 2 b a)) (le-trans (mul-le-mul-right (2 ^ a) lo) (le-trans u (le-of-eq (mul-one (2 ^ 16)))))))
+near : (c m : ℕ) (e : ℤ) (b : ℕ) → 2 ^ b ≤ m → m < 2 ^ (b + 1) → m * up e ≤ 2 ^ c * down e → down e ≤ m * up e * 2 ^ c → natAbs (e +ℤ pos b) ≤ c
+near c m (pos a) b lo hi u d =
+    turn c a b (pow-le-back (b + a) c (le-trans (le-of-eq (pow-add 2 b a)) (le-trans (mul-le-mul-right (2 ^ a) lo) (le-trans u (le-of-eq (mul-one (2 ^ c)))))))
   where
-    turn : (a b : ℕ) → b + a ≤ 16 → a + b ≤ 16
-    turn a b h = omega arith
-near m (negsuc a) b lo hi u d =
-    split b a (ltb b (suc a)) (ltb→lt b (suc a))
-    (pow-le-back b (16 + suc a) (le-trans lo (le-trans (le-of-eq (sym (mul-one m))) (le-trans u (le-of-eq (sym (pow-add 2 16 (suc a))))))))
-    (less a b (pow-lt-back (suc a) (b + 1 + 14) (lt-of-le-of-lt d (lt-of-lt-of-le (below14 m (2 ^ (b + 1)) hi) (le-of-eq (sym (pow-add 2 (b + 1) 14)))))))
+    turn : (c a b : ℕ) → b + a ≤ c → a + b ≤ c
+    turn c a b h = omega arith
+near c m (negsuc a) b lo hi u d =
+    split c b a (ltb b (suc a)) (ltb→lt b (suc a))
+    (pow-le-back b (c + suc a) (le-trans lo (le-trans (le-of-eq (sym (mul-one m))) (le-trans u (le-of-eq (sym (pow-add 2 c (suc a))))))))
+    (less c a b (pow-lt-back (suc a) (b + 1 + c) (lt-of-le-of-lt d (lt-of-lt-of-le (mul-lt-mul-of-pos-right (lt-of-le-of-lt (le-of-eq (mul-one m)) hi) (pow-pos c)) (le-of-eq (sym (pow-add 2 (b + 1) c)))))))
   where
-    below14 : (m p : ℕ) → m < p → m * 1 * 2 ^ 14 < p * 2 ^ 14
-    below14 m p h = omega arith
+    less : (c a b : ℕ) → suc a < b + 1 + c → suc a ≤ b + c
+    less c a b h = omega arith
 
-    less : (a b : ℕ) → suc a < b + 1 + 14 → suc a ≤ b + 14
-    less a b h = omega arith
-
-lead-most : (m : ℕ) (e : ℤ) → Size 16 (fin false (suc m) e) → Least 14 (fin false (suc m) e) → natAbs (binade (suc m) e) ≤ 16
-lead-most m e u d =
+lead-most : (c m : ℕ) (e : ℤ) → Size c (fin false (suc m) e) → Least c (fin false (suc m) e) → natAbs (binade (suc m) e) ≤ c
+lead-most c m e u d =
     let z = size (suc m) in
     let p : 0 < z = some m in
-    near (suc m) e (z - 1) (size-reaches (suc m) (z - 1) (less z p)) (subst (λ (x : ℕ). suc m < 2 ^ x) (back z p) (size-lt (suc m))) u d
+    near c (suc m) e (z - 1) (size-reaches (suc m) (z - 1) (less z p)) (subst (λ (x : ℕ). suc m < 2 ^ x) (back z p) (size-lt (suc m))) u d
   where
     less : (z : ℕ) → 0 < z → z - 1 < z
     less z h = omega arith
@@ -59,12 +59,26 @@ lead-most m e u d =
     some : (m : ℕ) → 0 < size (suc m)
     some m = pow-lt-back 0 (size (suc m)) (lt-of-le-of-lt (zero-lt-suc m) (size-lt (suc m)))
 
-pub log-size : (m : ℕ) (e : ℤ) → T (fits binary32 (fin false (suc m) e)) → Size 16 (fin false (suc m) e) → Least 14 (fin false (suc m) e)
-    → natAbs (stepLog binary32 (suc m) e) < 34 * 256 * 2 ^ 22
-log-size m e k u d = lt-of-le-of-lt (step-most (suc m) e) (few (natAbs (binade (suc m) e)) (lead-most m e u d))
+pub log-size : (c m : ℕ) (e : ℤ) → Size c (fin false (suc m) e) → Least c (fin false (suc m) e) → natAbs (stepLog binary32 (suc m) e) < (c + 6) * 256 * 2 ^ 22
+log-size c m e u d = lt-of-le-of-lt (step-most (suc m) e) (few (natAbs (binade (suc m) e)) c (lead-most c m e u d))
   where
-    few : (k : ℕ) → k ≤ 16 → (k * 256 + 256) * 2 ^ 22 + 2 ^ 32 < 34 * 256 * 2 ^ 22
-    few k h = omega arith
+    few : (k c : ℕ) → k ≤ c → (k * 256 + 256) * 2 ^ 22 + 2 ^ 32 < (c + 6) * 256 * 2 ^ 22
+    few k c h = omega arith
+
+-- ln itself: c + 5 is above every logarithm there
+pub ln-size : (c j : ℕ) (x : Float) → T (positive x) → j < 128 → c + 5 ≤ 2 ^ j → Size c x → Least c x → Size j (ln32 x)
+unfolding lnDef
+ln-size c j nan p l b u d = absurd p
+ln-size c j (inf s) p l b u d = absurd p
+ln-size c j (fin true m e) p l b u d = absurd p
+ln-size c j (fin false zero e) p l b u d = absurd p
+ln-size c j (fin false (suc m) e) p l b u d =
+    let z = logarithm binary32 (suc m) e in
+    round-size (below0 z) (natAbs z) (2 ^ 56) j (pow-pos 56) l
+    (le-trans (log-most (suc m) e) (le-trans (few (natAbs (binade (suc m) e)) c (lead-most c m e u d)) (mul-le-mul-right (2 ^ 56) b)))
+  where
+    few : (k c : ℕ) → k ≤ c → (k * 256 + 256) * 2 ^ 48 + 2 ^ 58 ≤ (c + 5) * 2 ^ 56
+    few k c h = omega arith
 
 -- ---- pow's domain
 or-l : (a b : Bool) → T a → T (a || b)
@@ -75,10 +89,10 @@ or-r : (a b : Bool) → T b → T (a || b)
 or-r true b t = tt
 or-r false b t = t
 
-of-below : (a b : ℕ) → a ≤ b → T (ltb a b || (eqb a b && true))
+pub of-below : (a b : ℕ) → a ≤ b → T (ltb a b || (eqb a b && true))
 of-below a b h = elim (eq-or-lt-of-le h) [ inl p ↦ or-r (ltb a b) (eqb a b && true) (and-i (eqb a b) true (eq→eqb p) tt) | inr q ↦ or-l (ltb a b) (eqb a b && true) (lt→ltb a b q) ]
 
-below-of : (a b : ℕ) → a ≤ b → T (ltb a b || (eqb b a && true))
+pub below-of : (a b : ℕ) → a ≤ b → T (ltb a b || (eqb b a && true))
 below-of a b h = elim (eq-or-lt-of-le h) [ inl p ↦ or-r (ltb a b) (eqb b a && true) (and-i (eqb b a) true (eq→eqb (sym p)) tt) | inr q ↦ or-l (ltb a b) (eqb b a && true) (lt→ltb a b q) ]
 
 pub in-reach : (y : Float) → Size 4 y → T (powered y)

@@ -62,10 +62,10 @@ module _ (exp-w8 w9 w10 w15 w16 : Float) (last : State) (a : Size 12 exp-w8) (b 
   abbrev grown : Float
   grown = exp-w8 *ᶠ (eleven -ᶠ last .d) *ᶠ pow32 (last .s) (neg w9)
 
-  grown-size : Size 51 grown
+  grown-size : Size 39 grown
   grown-size =
-      mul-size 17 34 (exp-w8 *ᶠ (eleven -ᶠ last .d)) (pow32 (last .s) (neg w9)) (lit< tt)
-      (mul-size 12 5 exp-w8 (eleven -ᶠ last .d) (lit< tt) a (sub-size 4 eleven (last .d) (lit< tt) eleven-size (q .size-d))) (pow-of (last .s) (neg w9) (q .above-s) (q .single-s) (q .size-s) (q .least-s) (neg-size 0 w9 b))
+      mul-size 17 22 (exp-w8 *ᶠ (eleven -ᶠ last .d)) (pow32 (last .s) (neg w9)) (lit< tt)
+      (mul-size 12 5 exp-w8 (eleven -ᶠ last .d) (lit< tt) a (sub-size 4 eleven (last .d) (lit< tt) eleven-size (q .size-d))) (pow-of (last .s) (neg w9) (q .above-s) (q .size-s) (q .least-s) (neg-size 0 w9 b))
 
   unurged : exp32 ((one -ᶠ unit) *ᶠ w10) -ᶠ one ≡ fin false 0 (pos 0)
   unurged =
@@ -79,5 +79,5 @@ module _ (exp-w8 w9 w10 w15 w16 : Float) (last : State) (a : Size 12 exp-w8) (b 
   unfolding successDef increase
   success =
       let z = fin false 0 (pos 0) in
-      let t : Zero (grown *ᶠ z *ᶠ unit *ᶠ unit) = zero-times (grown *ᶠ z *ᶠ unit) unit (zero-times (grown *ᶠ z) unit (times-zero grown z (size-finite 51 grown grown-size) (false, refl)) tt) tt in
+      let t : Zero (grown *ᶠ z *ᶠ unit *ᶠ unit) = zero-times (grown *ᶠ z *ᶠ unit) unit (zero-times (grown *ᶠ z) unit (times-zero grown z (size-finite 39 grown grown-size) (false, refl)) tt) tt in
       rw (not-two, not-four, unurged, one-is, zero-plus-one (grown *ᶠ z *ᶠ unit *ᶠ unit) t, times-one (last .s) (q .single-s))

@@ -1,14 +1,14 @@
--- The results of exp and pow in singles: never negative, at most 2 ^ k for an argument below k ln 2, and exp at least 1 from 0 on. Assumes nothing.
+-- The results of exp and pow: never negative, at most 2 ^ k for an argument below k ln 2, and exp at least 1 from 0 on; exp's size in either format. Assumes nothing.
 use mathlib.Core.Path.{_≡_, sym, ap, _∙_, subst}
 use mathlib.Core.Bool.{Bool, true, false, cond}
 use Prim.Native.Nat.{ℕ, zero, suc, _+_, _*_, _/_, _^_, _≤_, _<_, zero-le, suc-le-suc}
-use native.Mathlib.Nat.{le-trans, le-of-eq, le-of-lt, lt-of-le-of-lt, lt-of-mul-lt-mul-right, mul-comm, mul-one, one-mul, mul-pos, mul-le-mul, mul-le-mul-left, mul-le-mul-right, div-le-of-le-mul, div-lt-iff-lt-mul, mul-right-comm}
+use native.Mathlib.Nat.{le-trans, le-of-eq, le-of-lt, lt-of-le-of-lt, lt-of-mul-lt-mul-right, mul-lt-mul-of-pos-left, mul-one, one-mul, mul-pos, mul-le-mul, mul-le-mul-left, mul-le-mul-right, div-lt-iff-lt-mul}
 use native.Mathlib.Omega.{arith}
-use lib.Dec.{T, ltb, ltb→lt, lit<, lit≤}
+use lib.Dec.{T, ltb, ltb→lt, lit<}
 use lib.IntN.{ℤ, pos, negsuc, natAbs, subℕ, _*ℤ_}
 use lib.Pow.{pow-pos, pow-add, pow-mono, shl-lt}
 use lib.Signed.{ltZ, shrZ}
-use lib.Ieee.{Float, nan, inf, fin, Format, binary32, emax, up, down, round, le}
+use lib.Ieee.{Float, nan, inf, fin, Format, binary32, binary64, emax, up, down, round, le}
 use lib.Ieee.Fits.{down-pos}
 use lib.Ieee.Order.{round-mono}
 use Rattle.table.specs.Exact.{N}
@@ -18,8 +18,10 @@ use Rattle.kernels.specs.Power.{significand, places, finish, power}
 use Rattle.kernels.specs.Logarithm.{stepLog}
 use Rattle.kernels.specs.Kernels.{turns, raised, powered, powAt, expDef, powDef}
 use Rattle.kernels.proofs.Definitions.Cases.{in-domain}
-use Rattle.kernels.proofs.Definitions.Sizes.{natAbs-signed, natAbs-mul, shr-most, rest-lt, significand-low, significand-high}
-use Rattle.laws.proofs.Values.Sizes.{Size, plus, plus-cond, plus-round, unit, one-round, round-size}
+use Rattle.kernels.proofs.Definitions.Sizes.{natAbs-signed, natAbs-mul, shr-most, rest-lt, significand-low}
+use Rattle.laws.proofs.Distances.power.Significand.{significand-high}
+use Rattle.laws.proofs.Distances.Exp.{turns-hi}
+use Rattle.laws.proofs.Values.Sizes.{Size, plus, plus-cond, plus-round, unit, one-round, round-size-in}
 
 -- ---- never negative
 plus-finish : (f : Format) (k : ℤ) (M : ℕ) → T (plus (finish f k M))
@@ -56,82 +58,89 @@ size-cond : (k : ℕ) (b : Bool) (x y : Float) → (T b → Size k x) → Size k
 size-cond k true x y h g = h tt
 size-cond k false x y h g = g
 
-not-over : (Z : ℤ) (k : ℕ) → k < 128 → natAbs Z < k * 2 ^ 52 → T (ltZ (pos 127) (shrZ Z (2 ^ 52))) → ⊥
-not-over (negsuc z) k l h t = t
-not-over (pos z) k l h t = less (z / 2 ^ 52) k l (div-lt-iff-lt-mul (pow-pos 52) .1 h) (ltb→lt 127 (z / 2 ^ 52) t)
+not-over : (e : ℕ) (Z : ℤ) (k : ℕ) → k < suc e → natAbs Z < k * 2 ^ 52 → T (ltZ (pos e) (shrZ Z (2 ^ 52))) → ⊥
+not-over e (negsuc z) k l h t = t
+not-over e (pos z) k l h t = less (z / 2 ^ 52) k e l (div-lt-iff-lt-mul (pow-pos 52) .1 h) (ltb→lt e (z / 2 ^ 52) t)
   where
-    less : (q k : ℕ) → k < 128 → q < k → 127 < q → ⊥
-    less q k l h t = omega arith
+    less : (q k e : ℕ) → k < suc e → q < k → e < q → ⊥
+    less q k e l h t = omega arith
 
-under : (Z : ℤ) (M k : ℕ) → M < 2 ^ 32 → natAbs Z < k * 2 ^ 52 → M * up (shrZ Z (2 ^ 52)) ≤ 2 ^ k * (2 ^ 31 * down (shrZ Z (2 ^ 52)))
-under (negsuc z) M k a h =
-    le-trans (le-of-eq (mul-one M)) (le-trans (le-of-lt a)
-    (mul-le-mul {n₁ = 1} {m₁ = 2 ^ 31 * 2 ^ 1} (pow-pos k) (mul-le-mul-left (2 ^ 31) (pow-mono {i = 1} {j = suc (z / 2 ^ 52)} (suc-le-suc zero-le)))))
-under (pos z) M k a h =
+under : (c : ℕ) (Z : ℤ) (M k : ℕ) → M < 2 ^ (c + 1) → natAbs Z < k * 2 ^ 52 → M * up (shrZ Z (2 ^ 52)) ≤ 2 ^ k * (2 ^ c * down (shrZ Z (2 ^ 52)))
+under c (negsuc z) M k a h =
+    le-trans (le-of-eq (mul-one M)) (le-trans (le-of-lt a) (le-trans (le-of-eq (pow-add 2 c 1 ∙ sym (one-mul (2 ^ c * 2 ^ 1))))
+    (mul-le-mul {n₁ = 1} {m₁ = 2 ^ c * 2 ^ 1} (pow-pos k) (mul-le-mul-left (2 ^ c) (pow-mono {i = 1} {j = suc (z / 2 ^ 52)} (suc-le-suc zero-le))))))
+under c (pos z) M k a h =
     let q = z / 2 ^ 52 in
-    le-trans (le-of-lt (shl-lt 32 q a)) (le-trans (pow-mono (short q k (div-lt-iff-lt-mul (pow-pos 52) .1 h))) (le-of-eq (pow-add 2 k 31)))
+    le-trans (le-of-lt (shl-lt (c + 1) q a)) (le-trans (pow-mono (short c q k (div-lt-iff-lt-mul (pow-pos 52) .1 h))) (le-of-eq (pow-add 2 k c ∙ ap (λ (x : ℕ). 2 ^ k * x) (sym (mul-one (2 ^ c))))))
   where
-    short : (q k : ℕ) → q < k → 32 + q ≤ k + 31
-    short q k h = omega arith
+    short : (c q k : ℕ) → q < k → c + 1 + q ≤ k + c
+    short c q k h = omega arith
 
-power-size : (Z : ℤ) (k : ℕ) → k < 128 → natAbs Z < k * 2 ^ 52 → Size k (power binary32 Z)
+digits : (f : Format) (i r : ℕ) → i < 256 → r < 2 ^ 44 → significand f i r < 2 ^ (places f + 1)
+digits binary32 i r h l = significand-high binary32 i r h l
+digits binary64 i r h l = significand-high binary64 i r h l
+
+power-size : (f : Format) (Z : ℤ) (k : ℕ) → k < suc (emax f) → natAbs Z < k * 2 ^ 52 → Size k (power f Z)
 unfolding power finish
-power-size Z k l h =
+power-size f Z k l h =
     let K = shrZ Z (2 ^ 52) in
-    let M = significand binary32 (restZ (shrZ Z (2 ^ 44)) 256) (restZ Z (2 ^ 44)) in
-    let r = round binary32 false (M * up K) (2 ^ 31 * down K) in
-    size-cond k (ltZ K (subℕ 1 127)) (fin false 0 (pos 0)) (cond (ltZ (pos 127) K) (inf false) r) (λ t. zero-le)
-    (size-cond k (ltZ (pos 127) K) (inf false) r (not-over Z k l h)
-    (round-size false (M * up K) (2 ^ 31 * down K) k (mul-pos (pow-pos 31) (down-pos K)) l
-    (under Z M k (significand-high (restZ (shrZ Z (2 ^ 44)) 256) (restZ Z (2 ^ 44)) (rest-lt (shrZ Z (2 ^ 44)) 256 (lit< tt)) (rest-lt Z (2 ^ 44) (lit< tt))) h)))
+    let M = significand f (restZ (shrZ Z (2 ^ 44)) 256) (restZ Z (2 ^ 44)) in
+    let r = round f false (M * up K) (2 ^ places f * down K) in
+    size-cond k (ltZ K (subℕ 1 (emax f))) (fin false 0 (pos 0)) (cond (ltZ (pos (emax f)) K) (inf false) r) (λ t. zero-le)
+    (size-cond k (ltZ (pos (emax f)) K) (inf false) r (λ t. absurd (not-over (emax f) Z k l h t))
+    (round-size-in f false (M * up K) (2 ^ places f * down K) k (mul-pos (pow-pos (places f)) (down-pos K)) l
+    (under (places f) Z M k (digits f (restZ (shrZ Z (2 ^ 44)) 256) (restZ Z (2 ^ 44)) (rest-lt (shrZ Z (2 ^ 44)) 256 (lit< tt)) (rest-lt Z (2 ^ 44) (lit< tt))) h)))
 
-turns-most : (j s b : ℕ) → s ≤ 2 ^ j * b → turns binary32 s b ≤ 2 ^ j * (2 ^ 103 / N * 2 ^ 13)
-unfolding turns
-turns-most j s b h = cut (2 ^ j) s b (2 ^ 103 / N * 2 ^ 13) h
+-- an argument of at most 2 ^ j turns fewer than k factors of 2
+pub turns-less : (f : Format) (j k s b : ℕ) → 0 < b → s ≤ 2 ^ j * b → 2 ^ j * 2 ^ 72 < k * 256 * N → turns f s b < k * 2 ^ 52
+turns-less f j k s b z h l = go (turns f s b) k N b s (2 ^ j) z (turns-hi f s b) h l
   where
-    cut : (p s b c : ℕ) → s ≤ p * b → s * c / b ≤ p * c
-    cut p s b c h = div-le-of-le-mul b (le-trans (mul-le-mul-right c h) (le-of-eq (mul-right-comm p b c ∙ mul-comm (p * c) b)))
+    go : (t k n b s p : ℕ) → 0 < b → t * (n * b) ≤ 2 ^ 116 * s → s ≤ p * b → p * 2 ^ 72 < k * 256 * n → t < k * 2 ^ 52
+    go t k n b s p z h l m = lt-of-mul-lt-mul-right (n * b) (omega (arith, mul-le-mul-left (2 ^ 116) l, mul-lt-mul-of-pos-left {k = b * 2 ^ 44} m (mul-pos z (pow-pos 44))))
 
-pub exp-size : (j k : ℕ) (x : Float) → 0 < k → k < 128 → 2 ^ j * 2 ^ 72 < k * 256 * N → Size j x → Size k (exp32 x)
+pub exp-size-in : (f : Format) (j k : ℕ) (x : Float) → k < suc (emax f) → 2 ^ j * 2 ^ 72 < k * 256 * N → Size j x → Size k (expDef f x)
 unfolding expDef
-exp-size j k nan z l b h = absurd h
-exp-size j k (inf s) z l b h = absurd h
-exp-size j k (fin s m e) z l b h =
-    let t = turns binary32 (m * up e) (down e) in
-    power-size (signed s t) k l
-    (lt-of-le-of-lt (le-of-eq (natAbs-signed s t)) (lt-of-le-of-lt (turns-most j (m * up e) (down e) h) (scaled (2 ^ j) k (2 ^ 103 / N * 2 ^ 13) N (lit≤ tt) b)))
-  where
-    scaled : (p k c n : ℕ) → c * n ≤ 2 ^ 116 → p * 2 ^ 72 < k * 256 * n → p * c < k * 2 ^ 52
-    scaled p k c n a h = lt-of-mul-lt-mul-right n (omega (arith, mul-le-mul-left p a))
+exp-size-in f j k nan l b h = absurd h
+exp-size-in f j k (inf s) l b h = absurd h
+exp-size-in f j k (fin s m e) l b h =
+    let t = turns f (m * up e) (down e) in
+    power-size f (signed s t) k l (lt-of-le-of-lt (le-of-eq (natAbs-signed s t)) (turns-less f j k (m * up e) (down e) (down-pos e) h b))
 
--- an exponent of at most 1 in size makes the logarithm no larger
-raised-most : (t : Bool) (x b : ℕ) (l : ℤ) → 0 < b → x ≤ b → natAbs (raised binary32 t x b l) ≤ natAbs l * 2 ^ 22
+pub exp-size : (j k : ℕ) (x : Float) → k < 128 → 2 ^ j * 2 ^ 72 < k * 256 * N → Size j x → Size k (exp32 x)
+exp-size = exp-size-in binary32
+
+-- an exponent of at most 2 ^ a in size makes the logarithm at most so many times larger
+raised-most : (t : Bool) (c x b : ℕ) (l : ℤ) → 0 < b → x ≤ c * b → natAbs (raised binary32 t x b l) ≤ c * natAbs l * 2 ^ 22
 unfolding raised
-raised-most t x b l z h =
+raised-most t c x b l z h =
     let y = signed t x *ℤ l *ℤ pos (2 ^ 19) in
     let p : natAbs y ≡ x * natAbs l * 2 ^ 19 =
     natAbs-mul (signed t x *ℤ l) (pos (2 ^ 19)) ∙ ap (λ (n : ℕ). n * 2 ^ 19) (natAbs-mul (signed t x) l ∙ ap (λ (n : ℕ). n * natAbs l) (natAbs-signed t x)) in
     le-trans (le-of-eq (natAbs-mul (shrZ y b) (pos 8)))
-    (eight (natAbs (shrZ y b)) (natAbs l) (shr-most y b (natAbs l * 2 ^ 19) z (le-trans (le-of-eq p) (times x b (natAbs l) h))))
+    (eight (natAbs (shrZ y b)) (c * natAbs l) (shr-most y b (c * natAbs l * 2 ^ 19) z (le-trans (le-of-eq p) (times c x b (natAbs l) h))))
   where
     eight : (q l : ℕ) → q ≤ l * 2 ^ 19 → q * 8 ≤ l * 2 ^ 22
     eight q l h = omega arith
 
-    times : (x b l : ℕ) → x ≤ b → x * l * 2 ^ 19 ≤ b * (l * 2 ^ 19)
-    times x b l h = omega (arith, mul-le-mul-right l h)
+    times : (c x b l : ℕ) → x ≤ c * b → x * l * 2 ^ 19 ≤ b * (c * l * 2 ^ 19)
+    times c x b l h = omega (arith, mul-le-mul-right l h)
 
-pub pow-size : (k m : ℕ) (e : ℤ) (y : Float) → 0 < k → k < 128 → natAbs (stepLog binary32 (suc m) e) < k * 256 * 2 ^ 22
-    → T (powered y) → Size 0 y → Size k (pow32 (fin false (suc m) e) y)
-pow-size k m e nan z l b p h = absurd h
-pow-size k m e (inf t) z l b p h = absurd h
-pow-size k m e (fin t n d) z l b p h =
+pub pow-size-by : (a k m : ℕ) (e : ℤ) (y : Float) → k < 128 → 2 ^ a * natAbs (stepLog binary32 (suc m) e) < k * 256 * 2 ^ 22
+    → T (powered y) → Size a y → Size k (pow32 (fin false (suc m) e) y)
+pow-size-by a k m e nan l b p h = absurd h
+pow-size-by a k m e (inf t) l b p h = absurd h
+pow-size-by a k m e (fin t n d) l b p h =
     let g = stepLog binary32 (suc m) e in
     subst (Size k) (sym (in-domain binary32 m e (fin t n d) p))
-    (power-size (raised binary32 t (n * up d) (down d) g) k l
-    (lt-of-le-of-lt (raised-most t (n * up d) (down d) g (down-pos d) (le-trans h (le-of-eq (one-mul (down d))))) (more (natAbs g) k b)))
+    (power-size binary32 (raised binary32 t (n * up d) (down d) g) k l
+    (lt-of-le-of-lt (raised-most t (2 ^ a) (n * up d) (down d) g (down-pos d) h) (more (2 ^ a * natAbs g) k b)))
   where
     more : (g k : ℕ) → g < k * 256 * 2 ^ 22 → g * 2 ^ 22 < k * 2 ^ 52
     more g k h = omega arith
+
+pub pow-size : (k m : ℕ) (e : ℤ) (y : Float) → k < 128 → natAbs (stepLog binary32 (suc m) e) < k * 256 * 2 ^ 22
+    → T (powered y) → Size 0 y → Size k (pow32 (fin false (suc m) e) y)
+pow-size k m e y l b p h = pow-size-by 0 k m e y l (lt-of-le-of-lt (le-of-eq (one-mul (natAbs (stepLog binary32 (suc m) e)))) b) p h
 
 -- ---- at least 1
 least-cond : (b : Bool) (x y : Float) → T (le unit x) → T (le unit y) → T (le unit (cond b x y))

@@ -39,6 +39,17 @@ plus-div (fin false m e) (inf false) p h = tt
 plus-div (fin false m e) (fin true n d) p h = absurd h
 plus-div (fin false m e) (fin false n d) p h = quotient m e n d
 
+-- one that is not negative over one above 0
+pub plus-over : (x y : Float) → T (plus x) → T (finite x) → T (positive y) → T (plus (x /ᶠ y))
+unfolding div
+plus-over nan y h a p = absurd a
+plus-over (inf s) y h a p = absurd a
+plus-over (fin true m e) y h a p = absurd h
+plus-over (fin false m e) nan h a p = absurd p
+plus-over (fin false m e) (inf t) h a p = absurd p
+plus-over (fin false m e) (fin true n d) h a p = absurd p
+plus-over (fin false m e) (fin false n d) h a p = quotient m e n d
+
 -- two that are negative
 pub both-negative : (m : ℕ) (e : ℤ) (y : Float) → T (positive y) → T (plus (fin true m e /ᶠ neg y))
 unfolding div neg

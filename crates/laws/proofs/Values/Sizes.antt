@@ -1,13 +1,13 @@
--- How large a single is, |x| at most 2 ^ k, and whether it is negative; both of a rounded fraction. Assumes nothing.
+-- How large a number is, |x| at most 2 ^ k, and whether it is negative; both of a rounded fraction, in either format. Assumes nothing.
 use mathlib.Core.Path.{_≡_, refl, sym, ap, _∙_, subst}
 use mathlib.Core.Bool.{Bool, true, false, not, _&&_, _||_, cond}
 use mathlib.Core.Logic.{inl, inr}
 use Prim.Native.Nat.{ℕ, zero, suc, _+_, _*_, _^_, _≤_, _<_}
-use native.Mathlib.Nat.{le-trans, le-of-eq, le-of-lt, lt-of-le-of-lt, mul-one, one-mul, mul-le-mul-right}
+use native.Mathlib.Nat.{le-trans, le-of-eq, le-of-lt, lt-of-le-of-lt, lt-of-lt-of-le, mul-one, one-mul, mul-le-mul-right}
 use lib.Dec.{T, ltb, eqb, ltb→lt, lt→ltb, eqb→eq}
 use lib.IntN.{pos}
 use lib.Pow.{pow-pos, pow-lt, pow-mono}
-use lib.Ieee.{Float, nan, inf, fin, Format, binary32, prec, emax, low, odd, units, round, up, down, fits, neg, le}
+use lib.Ieee.{Float, nan, inf, fin, Format, binary32, binary64, prec, emax, low, odd, units, round, up, down, fits, neg, isNan, le}
 use lib.Ieee.Fits.{and-l, round-is}
 use lib.Ieee.Order.{round-mono}
 use lib.Ieee.Scale.{finite}
@@ -92,18 +92,33 @@ pub one-round : round binary32 false 1 1 ≡ unit
 unfolding round
 one-round = refl
 
-power-fits : (k : ℕ) → k < 128 → T (fits binary32 (fin false 1 (pos k)))
+-- ---- in a format, whose numbers lie below 2 ^ (emax + 1)
+under : (k e : ℕ) → k < suc e → 1 * 2 ^ k < 2 ^ suc e * 1
+under k e h = lt-of-le-of-lt (le-of-eq (one-mul (2 ^ k))) (lt-of-lt-of-le (pow-lt h) (le-of-eq (sym (mul-one (2 ^ suc e)))))
+
+power-fits : (f : Format) (k : ℕ) → k < suc (emax f) → T (fits f (fin false 1 (pos k)))
 unfolding fits
-power-fits k h = lt→ltb (1 * 2 ^ k) (2 ^ 128 * 1) (lt-of-le-of-lt (le-of-eq (one-mul (2 ^ k))) (pow-lt h))
+power-fits binary32 k h = lt→ltb (1 * 2 ^ k) (2 ^ 128 * 1) (under k 127 h)
+power-fits binary64 k h = lt→ltb (1 * 2 ^ k) (2 ^ 1024 * 1) (under k 1023 h)
 
-power-round : (k : ℕ) → k < 128 → round binary32 false (2 ^ k) 1 ≡ fin false 1 (pos k)
-power-round k h = settles binary32 false 1 (pos k) (2 ^ k) 1 (power-fits k h) (pow-pos 0) (ap (λ (x : ℕ). x * 1) (sym (one-mul (2 ^ k))))
+power-round : (f : Format) (k : ℕ) → k < suc (emax f) → round f false (2 ^ k) 1 ≡ fin false 1 (pos k)
+power-round f k h = settles f false 1 (pos k) (2 ^ k) 1 (power-fits f k h) (pow-pos 0) (ap (λ (x : ℕ). x * 1) (sym (one-mul (2 ^ k))))
 
-plus-size : (a c k : ℕ) → 0 < c → k < 128 → a ≤ 2 ^ k * c → Size k (round binary32 false a c)
-plus-size a c k z l h =
-    most k (round binary32 false a c) (plus-round binary32 a c)
-    (subst (λ (x : Float). T (le (round binary32 false a c) x)) (power-round k l) (round-mono binary32 a c (2 ^ k) 1 z (pow-pos 0) (le-trans (le-of-eq (mul-one a)) h)))
+plus-size : (f : Format) (a c k : ℕ) → 0 < c → k < suc (emax f) → a ≤ 2 ^ k * c → Size k (round f false a c)
+plus-size f a c k z l h =
+    most k (round f false a c) (plus-round f a c)
+    (subst (λ (x : Float). T (le (round f false a c) x)) (power-round f k l) (round-mono f a c (2 ^ k) 1 z (pow-pos 0) (le-trans (le-of-eq (mul-one a)) h)))
+
+pub round-size-in : (f : Format) (s : Bool) (a c k : ℕ) → 0 < c → k < suc (emax f) → a ≤ 2 ^ k * c → Size k (round f s a c)
+round-size-in f true a c k z l h = subst (Size k) (sym (neg-round f a c)) (neg-size k (round f false a c) (plus-size f a c k z l h))
+round-size-in f false a c k z l h = plus-size f a c k z l h
 
 pub round-size : (s : Bool) (a c k : ℕ) → 0 < c → k < 128 → a ≤ 2 ^ k * c → Size k (round binary32 s a c)
-round-size true a c k z l h = subst (Size k) (sym (neg-round binary32 a c)) (neg-size k (round binary32 false a c) (plus-size a c k z l h))
-round-size false a c k z l h = plus-size a c k z l h
+round-size = round-size-in binary32
+
+-- a NaN is no number
+pub size-number : (k : ℕ) (x : Float) → Size k x → isNan x ≡ false
+unfolding isNan
+size-number k nan h = absurd h
+size-number k (inf s) h = absurd h
+size-number k (fin s m e) h = refl

@@ -117,7 +117,7 @@ module _ (w : List Float) (q : State) (ready : Ready w q) where
   early-move : move q (neg one) three .s ≡ q .s
   unfolding moveDef paramsDef
   early-move =
-      rw (early-not-none, three-not-one, early (w ! 20) (above-20 w box) (weight-size w box 20 (lit< tt)) (least-20 w box) (q .s) (mine .above-s) (mine .least-s), success (exp32 (w ! 8)) (w ! 9) (w ! 10) (w ! 15) (w ! 16) q (exp-size 3 12 (w ! 8) (lit< tt) (lit< tt) (lit< tt) (weight-size w box 8 (lit< tt))) (weight-size w box 9 (lit< tt)) (weight-size w box 10 (lit< tt)) mine)
+      rw (early-not-none, three-not-one, early (w ! 20) (above-20 w box) (weight-size w box 20 (lit< tt)) (least-20 w box) (q .s) (mine .above-s) (mine .least-s), success (exp32 (w ! 8)) (w ! 9) (w ! 10) (w ! 15) (w ! 16) q (exp-size 3 12 (w ! 8) (lit< tt) (lit< tt) (weight-size w box 8 (lit< tt))) (weight-size w box 9 (lit< tt)) (weight-size w box 10 (lit< tt)) mine)
 
   pub early-stability : stepDef p q (neg one) three 1 .state .s ≡ q .s
   early-stability = stability-is (neg one) three three-not-none ∙ ap (λ (s : Float). clampDef s S_MIN S_MAX) early-move ∙ stays-s (q .s) hs
