@@ -170,6 +170,21 @@ uint32_t fsrs_next_state(const float *w, size_t w_len, float stability, float di
  * leaves the given state in them. */
 uint32_t fsrs_next_state_on(const float *w, size_t w_len, float stability, float difficulty, uint32_t seen, uint32_t day,
                             uint32_t rating, float *next_stability, float *next_difficulty, uint32_t *next_seen);
+/* What is to be said of a row: that it is accepted, or which field is the first wrong one. */
+enum {
+    FSRS_ROW_ACCEPTED = 0,
+    FSRS_ROW_STABILITY = 1,
+    FSRS_ROW_DIFFICULTY = 2,
+    FSRS_ROW_INTERVAL = 3
+};
+/* Checks a row that an app has worked out for itself: a state before a review, the days since the review before, the rating,
+ * the state after, and the next interval at the retention. Accepted where the three claimed numbers have the bits of
+ * fsrs_next_state and, from the stability after, of fsrs_next_interval, which need no call beside this. They are given as
+ * their 32 bits, and may be any: -0.0 is not 0.0, and a NaN is judged like every other number. 13 where the state, the day or
+ * the retention is refused there. */
+uint32_t fsrs_check_row(const float *w, size_t w_len, float stability, float difficulty, float day, uint32_t rating,
+                        float retention, uint32_t stability_after, uint32_t difficulty_after, uint32_t interval,
+                        uint32_t *verdict);
 /* The state of a card from an SM-2 deck, by its ease factor, its interval in days, and the share of the deck's reviews
  * that were recalled (0.9, not 90). The stability is not clamped. Also refusal 14. */
 uint32_t fsrs_memory_state_from_sm2(const float *w, size_t w_len, float ease_factor, float interval, float sm2_retention,

@@ -50,11 +50,12 @@ __all__ = [
     "RECORD_STABILITY", "RECORD_DIFFICULTY", "RECORD_DAY", "RECORD_RATING", "RECORD_RETRIEVABILITY", "RECORD_PRE_STABILITY",
     "RECORD_PRE_DIFFICULTY", "RECORD_BRANCH", "RECORD_BRANCH_RAW", "RECORD_BRANCH_OTHER", "BRANCH_PADDING", "BRANCH_FIRST",
     "BRANCH_SAME_DAY", "BRANCH_SAME_DAY_ONE", "BRANCH_LAPSE", "BRANCH_LAPSE_FLOORED", "BRANCH_SUCCESS",
-    "State", "Seen", "Step", "Stepped", "Branch", "Record", "StateGradient", "Prefixes", "Cards", "Gradient",
+    "ROW_ACCEPTED", "ROW_STABILITY", "ROW_DIFFICULTY", "ROW_INTERVAL",
+    "State", "Seen", "Claimed", "Step", "Stepped", "Branch", "Record", "StateGradient", "Prefixes", "Cards", "Gradient",
     "exp_f32", "exp_f64", "expm1_f32", "ln_f32", "ln_f64", "pow_f32", "pow_f64", "fma_f32", "fma_f64", "round_f32", "round_f64",
     "check_and_fill_parameters", "power_forgetting_curve", "next_interval", "init_difficulty", "mean_reversion", "next_difficulty",
     "stability_after_success", "stability_after_failure", "stability_short_term", "first_state", "next_state",
-    "next_state_on", "memory_state_from_sm2",
+    "next_state_on", "check_row", "memory_state_from_sm2",
     "training_step", "training_step_backward", "record", "batch_loss", "batch_loss_and_grad", "card_loss", "card_loss_and_grad",
     "l2_penalty",
     "batch_file",
@@ -77,6 +78,9 @@ MAX_SIZE = 1 << 31  # the most that a batch size or a total of l2_penalty is
 (
     BRANCH_PADDING, BRANCH_FIRST, BRANCH_SAME_DAY, BRANCH_SAME_DAY_ONE, BRANCH_LAPSE, BRANCH_LAPSE_FLOORED, BRANCH_SUCCESS,
 ) = range(7)
+
+# What is to be said of a row: that it is accepted, or which field is the first wrong one.
+ROW_ACCEPTED, ROW_STABILITY, ROW_DIFFICULTY, ROW_INTERVAL = range(4)
 
 # The refusals by their numbers: their names, and what they say.
 REFUSALS = {
@@ -132,6 +136,23 @@ class Seen(NamedTuple):
 
     state: State = State()
     day: int = 0  # from 0 to MAX_DAY, on a calendar that counts whole days from any day
+
+
+class Claimed(NamedTuple):
+    """What an app says of a review: the state after it, and the next interval, each as the 32 bits of a single. Any may stand there.
+
+    >>> Claimed.of_floats(State(stability=1, difficulty=2), 0.5) == Claimed(0x3F800000, 0x40000000, 0x3F000000)
+    True
+    """
+
+    stability: int
+    difficulty: int
+    interval: int
+
+    @classmethod
+    def of_floats(cls, after: State, interval: float) -> Claimed:
+        """The bits of three numbers, each rounded to the nearest single."""
+        return cls(*(c_uint32.from_buffer(c_float(x)).value for x in (*after, interval)))
 
 
 class Step(NamedTuple):
@@ -277,6 +298,7 @@ _CALLS = {
     "first_state": "w:[f] rating:I > f f",
     "next_state": "w:[f] stability:f difficulty:f delta_t:f rating:I > f f",
     "next_state_on": "w:[f] stability:f difficulty:f seen:I day:I rating:I > f f I",
+    "check_row": "w:[f] stability:f difficulty:f day:f rating:I retention:f stability_after:I difficulty_after:I interval:I > I",
     "memory_state_from_sm2": "w:[f] ease_factor:f interval:f sm2_retention:f > f f",
     "training_step": _STEP + "> f f 10",
     "training_step_backward": _STEP + "g_s:d g_d:d g_r:d gw:&[d] > d d",
@@ -754,6 +776,26 @@ def next_state_on(w: Singles, seen: Seen, day: int, rating: int) -> Seen:
     (stability, difficulty), last = seen
     *state, on = _call("next_state_on", w, stability, difficulty, last, day, rating)
     return Seen(State(*state), on)
+
+
+def check_row(w: Singles, before: State, day: float, rating: int, retention: float, claimed: Claimed) -> int:
+    """What is to be said of a row that an app has worked out for itself: a state before a review, the days since the review before,
+    the rating, and what the app claims of the state after and of the next interval at `retention`. ROW_ACCEPTED where the claimed
+    bits are those of `next_state` and, from the stability after, of `next_interval`; else the first field that differs,
+    ROW_STABILITY, ROW_DIFFICULTY or ROW_INTERVAL. -0.0 is not 0.0, and a claimed NaN is judged like every other number.
+
+    Refusals: WeightCount, WeightBox, Scalar, before any verdict.
+
+    >>> w = check_and_fill_parameters([])
+    >>> before = State(stability=5, difficulty=6)
+    >>> after = next_state(w, before, 4, 3)
+    >>> claimed = Claimed.of_floats(after, next_interval(w, after.stability, 0.9))
+    >>> check_row(w, before, 4, 3, 0.9, claimed) == ROW_ACCEPTED
+    True
+    >>> check_row(w, before, 4, 3, 0.9, claimed._replace(interval=claimed.interval ^ 1)) == ROW_INTERVAL
+    True
+    """
+    return _call("check_row", w, *before, day, rating, retention, *claimed)[0]
 
 
 def memory_state_from_sm2(w: Singles, ease_factor: float, interval: float, sm2_retention: float) -> State:

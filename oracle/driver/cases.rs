@@ -143,6 +143,26 @@ impl Formula {
     }
 }
 
+/// A row of an app: a review, and the patterns that it claims of the state after it and of the next interval.
+#[derive(Clone)]
+pub struct Row {
+    pub w: Vec<f32>,
+    pub state: [f32; 2],
+    pub day: f32,
+    pub rating: u32,
+    pub retention: f32,
+    pub claimed: [u32; 3],
+}
+
+impl Row {
+    /// With one bit flipped.
+    pub fn flipped(&self, field: usize, bit: u32) -> Row {
+        let mut c = self.clone();
+        c.claimed[field] ^= 1 << bit;
+        c
+    }
+}
+
 /// A kernel by its place in KERNELS, on the patterns of its arguments.
 #[derive(Clone)]
 pub struct Kernel {
@@ -180,6 +200,7 @@ pub enum Case {
     Step(Step),
     Reverse(Reverse),
     Formula(Formula),
+    Row(Row),
     Filling(Vec<f32>),
     Kernel(Kernel),
     Penalty(Penalty),
@@ -206,6 +227,7 @@ impl Case {
             Case::Step(_) => "training_step",
             Case::Reverse(_) => "training_step_backward",
             Case::Formula(c) => FORMULAS[c.number],
+            Case::Row(_) => "check_row",
             Case::Filling(_) => "check_and_fill_parameters",
             Case::Kernel(c) => KERNELS[c.number],
             Case::Penalty(_) => "l2_penalty",

@@ -1,6 +1,6 @@
 // A call on both sides: ours, and what document 01 and the Rust's text have of it.
 use crate::analytic;
-use crate::cases::{plain_bits, Case, File, Formula, Kernel, Loss, Outcome, Part, FIELDS, ON_DAY, WEIGHTS};
+use crate::cases::{plain_bits, Case, File, Formula, Kernel, Loss, Outcome, Part, Row, FIELDS, ON_DAY, WEIGHTS};
 use crate::face::{self, UNWRITTEN_DOUBLE, UNWRITTEN_SINGLE};
 use crate::files;
 use crate::model;
@@ -80,6 +80,14 @@ fn expected_formula(c: &Formula, tally: &mut Tally) -> Outcome {
     }
 }
 
+// Nothing that is claimed is refused.
+fn expected_row(c: &Row, tally: &mut Tally) -> Outcome {
+    match rules::row_refusal(c) {
+        0 => model::row_outcome(c, tally),
+        refusal => Outcome { refusal, parts: vec![unwritten("verdict", false, 1)] },
+    }
+}
+
 fn expected_filling(given: &[f32], tally: &mut Tally) -> Outcome {
     let filled = model::filled(given);
     if filled.is_some() {
@@ -140,6 +148,7 @@ pub fn expected(case: &Case, tally: &mut Tally) -> Outcome {
             refusal => Outcome { refusal, parts: vec![unwritten("gradients", true, 2), as_lent(&c.slots)] },
         },
         Case::Formula(c) => expected_formula(c, tally),
+        Case::Row(c) => expected_row(c, tally),
     }
 }
 
@@ -153,6 +162,7 @@ pub fn ours(case: &Case) -> Outcome {
         Case::Step(c) => face::step(c),
         Case::Reverse(c) => face::reverse(c),
         Case::Formula(c) => face::formula(c),
+        Case::Row(c) => face::row(c),
     }
 }
 

@@ -1,6 +1,6 @@
 // Our C functions (include/fsrs6.h) on the calls. What they may write stands between guards, and what they may not is
 // looked at again afterwards.
-use crate::cases::{File, Formula, Kernel, Loss, Outcome, Part, Penalty, Reverse, Step, FIELDS, ON_DAY, WEIGHTS};
+use crate::cases::{File, Formula, Kernel, Loss, Outcome, Part, Penalty, Reverse, Row, Step, FIELDS, ON_DAY, WEIGHTS};
 
 #[rustfmt::skip]
 extern "C" {
@@ -28,6 +28,7 @@ extern "C" {
     fn fsrs_stability_short_term(w: *const f32, w_len: usize, s: f32, rating: u32, stability: *mut f32) -> u32;
     fn fsrs_next_state(w: *const f32, w_len: usize, stability: f32, difficulty: f32, delta_t: f32, rating: u32, next_stability: *mut f32, next_difficulty: *mut f32) -> u32;
     fn fsrs_next_state_on(w: *const f32, w_len: usize, stability: f32, difficulty: f32, seen: u32, day: u32, rating: u32, next_stability: *mut f32, next_difficulty: *mut f32, next_seen: *mut u32) -> u32;
+    fn fsrs_check_row(w: *const f32, w_len: usize, stability: f32, difficulty: f32, day: f32, rating: u32, retention: f32, stability_after: u32, difficulty_after: u32, interval: u32, verdict: *mut u32) -> u32;
     fn fsrs_memory_state_from_sm2(w: *const f32, w_len: usize, ease_factor: f32, interval: f32, sm2_retention: f32, stability: *mut f32, difficulty: *mut f32) -> u32;
 
     fn fsrs_training_step(w: *const f32, w_len: usize, stability: f32, difficulty: f32, day: f32, rating: f32, row: usize, next_stability: *mut f32, next_difficulty: *mut f32, record: *mut f32) -> u32;
@@ -241,6 +242,15 @@ pub fn formula(c: &Formula) -> Outcome {
         parts.push(single_part("day", day));
     }
     Outcome { refusal, parts }
+}
+
+pub fn row(c: &Row) -> Outcome {
+    let mut verdict = singles(1);
+    let ([s, d], [x, y, z]) = (c.state, c.claimed);
+    let refusal = unsafe {
+        fsrs_check_row(c.w.as_ptr(), c.w.len(), s, d, c.day, c.rating, c.retention, x, y, z, verdict.place(0))
+    };
+    Outcome { refusal, parts: vec![single_part("verdict", verdict)] }
 }
 
 pub fn filling(given: &[f32]) -> Outcome {

@@ -1,8 +1,11 @@
 // Calls: first one that is accepted, every unread cell holding anything, and then perhaps faults.
 use crate::analytic;
-use crate::cases::{Case, Formula, Kernel, Loss, Reverse, Step, FIELDS, FORMULAS, FROM_SM2, KERNELS, ON_DAY, WEIGHTS};
+use crate::cases::{
+    Case, Formula, Kernel, Loss, Reverse, Row, Step, FIELDS, FORMULAS, FROM_SM2, KERNELS, ON_DAY, WEIGHTS,
+};
+use crate::model;
 use crate::random::{Random, LEAST};
-use crate::rules::{COLUMNS_MAX, DAY_NUMBER_MAX, DIFFICULTY, ROWS_MAX, STABILITY};
+use crate::rules::{self, COLUMNS_MAX, DAY_NUMBER_MAX, DIFFICULTY, ROWS_MAX, STABILITY};
 
 /// Which loss is called.
 #[derive(Clone, Copy)]
@@ -579,6 +582,26 @@ pub fn case(seed: u64, i: u64) -> Case {
         36..=39 => Case::Kernel(kernel(r)),
         _ => Case::Loss(loss(r, ANY, false)),
     }
+}
+
+/// The i-th row of a seed, which claims what the text gives, if it is not refused; and the same with one bit of each field
+/// flipped.
+pub fn rows(seed: u64, i: u64) -> [Row; 4] {
+    let r = &mut Random::new(seed.rotate_left(16), i);
+    let mut c = Row {
+        w: some_weights(r),
+        state: [around(r, STABILITY, true), around(r, DIFFICULTY, true)],
+        day: any_day(r),
+        rating: if r.one_in(10) { r.pick(&[0, 5, 6, u32::MAX, 1 << 31]) } else { r.between(1, 4) as u32 },
+        retention: around(r, (0.0001, 0.9999), true),
+        claimed: [0; 3].map(|_: i32| r.bits() as u32),
+    };
+    if rules::row_refusal(&c) == 0 {
+        c.claimed = model::row_answer(&c);
+    }
+    let mut flipped = |field| c.flipped(field, r.below(32) as u32);
+    let [x, y, z] = [flipped(0), flipped(1), flipped(2)];
+    [c, x, y, z]
 }
 
 /// The i-th loss of a seed whose histories stand at the end.

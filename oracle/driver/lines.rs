@@ -2,13 +2,14 @@
 // they hold. Beside them, over the weights and the slots of the last lines w and g, and without an answer:
 //
 //     s    a formula: its number from 0, three singles, a rating, two days
+//     c    a row of an app: stability, difficulty, day, retention, rating, three claimed patterns
 //     t    a training step: stability, difficulty, day, rating, row
 //     r    its reverse: the same, and three doubles
 //     f    a filling: a slice of singles
 //     k    a kernel: its number from 0, three patterns
 //     p    a penalty: the sizes, the factor, the old weights, the spreads and the slots, three slices of singles
 //     b    a batch file: its length, and its bytes as one word
-use crate::cases::{Case, File, Formula, Kernel, Loss, Outcome, Penalty, Reverse, Step};
+use crate::cases::{Case, File, Formula, Kernel, Loss, Outcome, Penalty, Reverse, Row, Step};
 use crate::compare::{digest, stored_loss};
 
 // ---- writing
@@ -68,6 +69,12 @@ pub fn lines(case: &Case, answer: Option<&Outcome>) -> String {
             let [x, y, z] = c.args.map(f32::to_bits);
             let [seen, day] = c.days;
             format!("{}\ns {:x} {x:08x} {y:08x} {z:08x} {:x} {seen:x} {day:x}", weights_line(&c.w), c.number, c.rating)
+        }
+        Case::Row(c) => {
+            let [s, d, day, retention] = [c.state[0], c.state[1], c.day, c.retention].map(f32::to_bits);
+            let [x, y, z] = c.claimed;
+            let review = format!("{s:08x} {d:08x} {day:08x} {retention:08x} {:x}", c.rating);
+            format!("{}\nc {review} {x:08x} {y:08x} {z:08x}", weights_line(&c.w))
         }
         Case::Filling(given) => format!("f{}", singles(given)),
         Case::Kernel(c) => format!("k {:x} {:x} {:x} {:x}", c.number, c.args[0], c.args[1], c.args[2]),
@@ -179,6 +186,17 @@ impl Reader {
         }
     }
 
+    fn row(&self, words: &mut Words) -> Row {
+        Row {
+            w: self.w.clone(),
+            state: [words.single(), words.single()],
+            day: words.single(),
+            retention: words.single(),
+            rating: words.number() as u32,
+            claimed: [words.number() as u32, words.number() as u32, words.number() as u32],
+        }
+    }
+
     /// The call of a line, where it is one.
     pub fn line(&mut self, line: &str) -> Option<Stored> {
         let letter = line.chars().next()?;
@@ -199,6 +217,7 @@ impl Reader {
                 return Some(Stored { case, answer: Some([words.number(), words.number(), words.number()]) });
             }
             's' => Case::Formula(self.formula(words)),
+            'c' => Case::Row(self.row(words)),
             't' => Case::Step(self.step(words)),
             'r' => Case::Reverse(self.reverse(words)),
             'f' => Case::Filling(words.singles()),

@@ -1,7 +1,8 @@
 // Holds our C functions to the Rust's own text, run over our kernels, with document 01's checks around it.
 //
 //     driver check SEED COUNT     compares generated calls, half as many losses at the end of their tables, each loss in
-//                                 both modes, a quarter as many penalties, and an eighth as many files
+//                                 both modes, a quarter as many penalties, an eighth as many files, and an eighth as many rows,
+//                                 each with the text's answers and with one bit of each field flipped
 //     driver stock SEED COUNT     measures distances; for a driver whose text was left as it is
 //     driver replay FILE...       compares the calls of FILE (lines.rs says what a line holds)
 //     driver vectors FILE...      compares the answers stored in FILE
@@ -84,6 +85,11 @@ fn check(seed: u64, count: u64, tally: &mut Tally) {
     }
     for i in 0..count / 4 {
         run(&Case::Penalty(penalty::some(seed, i)), &format!("penalty {i} of seed {seed}"), tally);
+    }
+    for i in 0..count / 8 {
+        for (j, c) in generate::rows(seed, i).into_iter().enumerate() {
+            run(&Case::Row(c), &format!("row {i} of seed {seed}, of its four the {j}-th from 0"), tally);
+        }
     }
     for i in 0..count / 8 {
         run(&Case::File(damage::file(seed, i)), &format!("file {i} of seed {seed}"), tally);

@@ -1,7 +1,7 @@
 // The Rust's scalar formulas and its filling, as their text stands, with document 01's added rules around them. run makes
 // the text: exp, exp_m1, ln and powf are ours (but not with --stock); mul_add and round are Rust's own.
 #![allow(dead_code, unused_imports)]
-use crate::cases::{Formula, Outcome, Part, FORMULAS, FROM_SM2, ON_DAY};
+use crate::cases::{Formula, Outcome, Part, Row, FORMULAS, FROM_SM2, ON_DAY};
 use crate::inference::MemoryState;
 use crate::simulation::{D_MAX, D_MIN, S_MAX, S_MIN};
 use crate::tally::Tally;
@@ -108,6 +108,25 @@ fn formula(c: &Formula) -> Option<Vec<f32>> {
         _ => return from_sm2(w, x, y, z).map(Vec::from),
     };
     Some(vec![answer])
+}
+
+/// K9: the state after a row's review, and the next interval from its stability, as patterns.
+pub fn row_answer(c: &Row) -> [u32; 3] {
+    let [s, d] = next_state(&c.w, c.state[0], c.state[1], c.day, c.rating);
+    [s, d, next_interval_scalar(&c.w, s, c.retention)].map(|x| {
+        assert!(!x.is_nan(), "a row's own number is a NaN");
+        x.to_bits()
+    })
+}
+
+/// 'name the first wrong field': the number of a verdict.
+pub fn row_outcome(c: &Row, tally: &mut Tally) -> Outcome {
+    let right = row_answer(c);
+    let wrong = (0..3).find(|&i| right[i] != c.claimed[i]);
+    let what = wrong.map_or("accepted", |i| ["stability", "difficulty", "interval"][i]);
+    tally.branch(&format!("row: {what}"));
+    let verdict = wrong.map_or(0, |i| i as u64 + 1);
+    Outcome { refusal: 0, parts: vec![Part::of("verdict", false, vec![verdict])] }
 }
 
 /// The set made 21, where the text takes its length.

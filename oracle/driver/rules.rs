@@ -1,6 +1,6 @@
 // Document 01's checks and their order, read from it alone: the number of the refusal, 0 where a call is accepted. Of K1's 14,
 // which the text decides, only what is said of it besides; K2's 15. What is read in K5's mode stands apart.
-use crate::cases::{Formula, Loss, Reverse, Step, FIELDS, FROM_SM2, ON_DAY, WEIGHTS};
+use crate::cases::{Formula, Loss, Reverse, Row, Step, FIELDS, FROM_SM2, ON_DAY, WEIGHTS};
 
 pub const BOX: [(f32, f32); WEIGHTS] = [
     (0.0001, 36500.0), (0.0001, 36500.0), (0.0001, 36500.0), (0.0001, 36500.0), (0.0, 20.0), (0.0, 4.0), (0.0, 6.0),
@@ -244,6 +244,15 @@ pub fn formula_refusal(c: &Formula) -> u32 {
         // K2: 'new 15 for the earlier day, after 13'
         true if c.number == ON_DAY && c.days[1] < c.days[0] => 15,
         true => 0,
+    }
+}
+
+/// K9: '1, 2, 13 as before'.
+pub fn row_refusal(c: &Row) -> u32 {
+    let is_good = c.state.iter().all(|x| x.is_finite()) && is_day(c.day) && c.retention.is_finite();
+    match weights_refusal(&c.w) {
+        0 if !is_good => 13,
+        x => x,
     }
 }
 

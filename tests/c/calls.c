@@ -11,7 +11,7 @@ struct call {
     float w[FSRS_WEIGHTS];
     size_t w_len;
     float stability, difficulty, retrievability, retention, day, rating, ease;
-    uint32_t whole_rating, seen, day_number;
+    uint32_t whole_rating, seen, day_number, claimed[3];
     size_t row;
     double g_s, g_d, g_r;
     float init_w[FSRS_WEIGHTS], spreads[FSRS_WEIGHTS];
@@ -26,7 +26,7 @@ struct call {
     size_t file_len;
     /* from here on a call may write */
     float filled[FSRS_WEIGHTS], answer, answer_difficulty, record[FSRS_RECORD];
-    uint32_t answer_seen;
+    uint32_t answer_seen, verdict;
     double gw[FSRS_WEIGHTS];
     size_t gw_len;
     float records[FSRS_RECORD * ROWS];
@@ -73,6 +73,7 @@ static struct call good(void) {
         .answer = 7,
         .answer_difficulty = 8,
         .answer_seen = 12,
+        .verdict = 13,
         .gw_len = FSRS_WEIGHTS,
         .records_len = FSRS_RECORD * ROWS,
         .loss = 9,
@@ -144,6 +145,11 @@ static uint32_t state(struct call *x) {
 static uint32_t on_day(struct call *x) {
     return fsrs_next_state_on(x->w, x->w_len, x->stability, x->difficulty, x->seen, x->day_number, x->whole_rating,
                               &x->answer, &x->answer_difficulty, &x->answer_seen);
+}
+
+static uint32_t row(struct call *x) {
+    return fsrs_check_row(x->w, x->w_len, x->stability, x->difficulty, x->day, x->whole_rating, x->retention, x->claimed[0],
+                          x->claimed[1], x->claimed[2], &x->verdict);
 }
 
 static uint32_t sm2(struct call *x) {
@@ -263,6 +269,7 @@ static const struct function functions[] = {
     {"first_state", first_state, FORMULA},
     {"next_state", state, FORMULA},
     {"next_state_on", on_day, ON_DAY},
+    {"check_row", row, FORMULA},
     {"memory_state_from_sm2", sm2, IMPORT},
     {"training_step", step, STEP},
     {"training_step_backward", step_backward, STEP | SLOTS},
@@ -801,6 +808,61 @@ static void days_carried(void) {
            seen == x.seen + 4, "a card over itself");
 }
 
+static void expect_verdict(struct call x, uint32_t verdict) {
+    expect(row(&x) == FSRS_ACCEPTED && x.verdict == verdict, "a row: verdict %d and not %d", (int)x.verdict, (int)verdict);
+}
+
+/* What the formulas give is accepted, and every flipped bit is seen, in the first field that has one. */
+static void rows_checked(void) {
+    const float days[] = {0, 0.4f, 4, -7, 100000};
+    for (size_t i = 0; i < sizeof days / sizeof *days; i++) {
+        struct call x = good();
+        x.day = days[i];
+        for (x.whole_rating = 0; x.whole_rating <= 5; x.whole_rating++) {
+            float days_to_next;
+            expect(state(&x) == FSRS_ACCEPTED, "a state was refused");
+            expect(fsrs_next_interval(x.w, x.w_len, x.answer, x.retention, &days_to_next) == FSRS_ACCEPTED, "an interval");
+            const uint32_t ours[3] = {single_bits(x.answer), single_bits(x.answer_difficulty), single_bits(days_to_next)};
+            memcpy(x.claimed, ours, sizeof ours);
+            expect_verdict(x, FSRS_ROW_ACCEPTED);
+            for (uint32_t field = 0; field < 3; field++) {
+                for (int bit = 0; bit < 32; bit++) {
+                    memcpy(x.claimed, ours, sizeof ours);
+                    x.claimed[field] ^= 1u << bit;
+                    expect_verdict(x, FSRS_ROW_STABILITY + field);
+                    x.claimed[2] = ~ours[2]; /* a field behind it makes no difference */
+                    expect_verdict(x, FSRS_ROW_STABILITY + field);
+                }
+            }
+        }
+    }
+}
+
+/* 1, 2 and 13 come before any verdict, and nothing that is claimed is refused. */
+static void rows_refused(void) {
+    const float bad[] = {NAN, INFINITY, -INFINITY};
+    for (size_t i = 0; i < sizeof bad / sizeof *bad; i++) {
+        struct call x = good();
+        x.retention = bad[i];
+        expect_refused("check_row", row, &x, FSRS_SCALAR);
+        x = good();
+        x.day = bad[i];
+        expect_refused("check_row", row, &x, FSRS_SCALAR);
+        x = good();
+        x.difficulty = bad[i];
+        expect_refused("check_row", row, &x, FSRS_SCALAR);
+        x.w[20] = 1.5f;
+        expect_refused("check_row", row, &x, FSRS_WEIGHT_BOX);
+        x.w_len = FSRS_WEIGHTS - 1;
+        expect_refused("check_row", row, &x, FSRS_WEIGHT_COUNT);
+        x = good();
+        for (int field = 0; field < 3; field++) {
+            x.claimed[field] = single_bits(bad[i]);
+        }
+        expect_verdict(x, FSRS_ROW_STABILITY);
+    }
+}
+
 /* Where the deck was recalled at 0.9 the stability is the interval, but for two roundings, which a power of 2 leaves out. */
 static void imports(void) {
     struct call x = good(), y;
@@ -1076,6 +1138,7 @@ int main(void) {
     refusals();
     first_states_refused();
     days_refused();
+    rows_refused();
     imports_refused();
     penalties_refused();
     penalties();
@@ -1084,6 +1147,7 @@ int main(void) {
     formulas();
     first_states();
     days_carried();
+    rows_checked();
     imports();
     steps();
     steps_backward();

@@ -20,7 +20,7 @@ static size_t w_len, g_len;
 
 struct lent {
     float answers[FSRS_WEIGHTS], record[FSRS_RECORD];
-    uint32_t day;
+    uint32_t day, verdict;
     double grad_s, grad_d, loss, penalty, gw[SET];
     float slots[SET];
     float records[RECORDS];
@@ -144,6 +144,13 @@ static void study_line(char letter) {
         if (expect_refusal(n, words[5])) {
             expect_singles("answer", lent.answers, words + 6, 2);
             expect_bits("day", lent.day, words[8]);
+        }
+    } else if (letter == 'R') {
+        uint32_t n = fsrs_check_row(w, w_len, single_of(words[0]), single_of(words[1]), single_of(words[2]),
+                                    (uint32_t)words[3], single_of(words[4]), (uint32_t)words[5], (uint32_t)words[6],
+                                    (uint32_t)words[7], &lent.verdict);
+        if (expect_refusal(n, words[8])) {
+            expect_bits("verdict", lent.verdict, words[9]);
         }
     } else if (strchr("CISLTEMDNP", letter)) {
         if (expect_refusal(formula(letter, lent.answers), words[4])) {

@@ -5,7 +5,8 @@
 
 How the list is made: every answer is computed here, with whole numbers and exact fractions alone, and
 never with a float. The formulas are the Rust's own, line by line under its names, from model_v6.rs and
-inference_v6.rs; the box, the ranges and the refusals are document 01's, 14 is K1's and 15 K2's. This is a second
+inference_v6.rs; the box, the ranges and the refusals are document 01's, 14 is K1's and 15 K2's;
+the verdicts are K9's. This is a second
 reading of both: nothing is taken from the definitions of the crates, but for what `max` and `min` give of two
 zeros with unlike signs, which Rust leaves open. Each sum, difference, product, quotient, fused
 multiply-add and `round` is an exact fraction, rounded once (tools/floats.py). exp, exp_m1, ln and pow are
@@ -17,7 +18,8 @@ lines.py says what all lists share; no line g is here, and a rating is a whole n
 words: the first four are the arguments, the fifth is the number of a refusal, 0 where there is none, and
 the sixth and seventh are the values, 0 where there is a refusal: a refused N or O hands back the state
 that it was given, which the program holds to the arguments. Where nothing is said a word is 0. Lines u, k
-and F have 22 words and a line O has nine: five arguments, the refusal, and three values.
+and F have 22 words, a line O has nine: five arguments, the refusal, and three values; and a line R ten:
+eight arguments, the refusal, and the verdict's number, 0 for an accepted row and else 1 to 3.
 
     c    clamp                                  x low high   -> value
     x n  max min                                x y          -> value
@@ -42,6 +44,8 @@ and F have 22 words and a line O has nine: five arguments, the refusal, and thre
     N    next_state_scalar                      stability difficulty day rating -> refusal, stability, difficulty
     O    next_state_on_scalar                   stability difficulty seen day rating -> refusal, stability, difficulty, day
     P    memory_state_from_sm2_scalar           ease interval retention -> refusal, stability, difficulty
+    R    check_row                              stability difficulty day rating retention, and the claimed patterns of the
+                                                stability, the difficulty and the interval -> refusal, verdict
 """
 from fractions import Fraction
 from functools import partial
@@ -61,7 +65,7 @@ NAMES = {
     "I": "next_interval_scalar", "S": "stability_after_success_scalar", "L": "stability_after_failure_scalar",
     "T": "stability_short_term_scalar", "E": "init_difficulty_scalar", "M": "mean_reversion_scalar",
     "D": "next_difficulty_scalar", "N": "next_state_scalar", "P": "memory_state_from_sm2_scalar",
-    "O": "next_state_on_scalar",
+    "O": "next_state_on_scalar", "R": "check_row",
 }
 
 # ---- singles
@@ -344,6 +348,26 @@ def ask_on(stability, difficulty, seen, day, rating):
     if not refusal:
         values = *map(one_nan, next_state_scalar(weights, stability, difficulty, number(day - seen), rating)), day
     lines.add("O", stability, difficulty, seen, day, rating, refusal, *values)
+
+
+def row_refusal(stability, difficulty, day, retention):
+    good = is_finite(stability) and is_finite(difficulty) and is_day(day) and is_finite(retention)
+    return weights_refusal(weights) or (0 if good else 13)
+
+
+def right(stability, difficulty, day, rating, retention):
+    """What the formulas N and I give, I of the stability after the review."""
+    s, d = next_state_scalar(weights, stability, difficulty, day, rating)
+    return one_nan(s), one_nan(d), one_nan(next_interval_scalar(weights, s, retention))
+
+
+def ask_row(stability, difficulty, day, rating, retention, claimed):
+    """K9: the first of the three fields whose pattern is not ours."""
+    refusal, verdict = row_refusal(stability, difficulty, day, retention), 0
+    if not refusal:
+        wrong = [x != y for x, y in zip(claimed, right(stability, difficulty, day, rating, retention), strict=True)]
+        verdict = wrong.index(True) + 1 if any(wrong) else 0
+    lines.add("R", stability, difficulty, day, rating, retention, *claimed, refusal, verdict)
 
 
 def ask_box():
@@ -872,6 +896,81 @@ def on_day_cases():
     on_day_some_cases()
 
 
+# ---- rows of an app
+
+def with_field(claimed, i, pattern):
+    return *claimed[:i], pattern, *claimed[i + 1:]
+
+
+def row_judged_cases():
+    """Each field with every bit flipped, a zero, an infinity or a NaN in its place, and the values of other readings."""
+    row = number(5), number(6), number(4), 3, R
+    ours = right(*row)
+    ask_row(*row, ours)
+    for i, pattern in enumerate(ours):
+        for bit in range(32):
+            ask_row(*row, with_field(ours, i, pattern ^ 1 << bit))
+        for other in (*TINY, *HUGE, *NANS, up(pattern), down(pattern)):
+            ask_row(*row, with_field(ours, i, other))
+    for flips in range(1, 8):  # of several wrong fields the first is named
+        ask_row(*row, tuple(pattern ^ (flips >> i & 1) for i, pattern in enumerate(ours)))
+    s, d, _ = ours
+    for days in (next_interval_scalar(weights, row[0], R), next_interval_scalar(weights, s, number("0.8")), rnd(ours[2])):
+        ask_row(*row, (s, d, days))
+    ask_row(*row, (d, s, ours[2]))
+
+
+def row_edge_cases():
+    """Accepted rows at the ends of what is taken, and beside each the same row with one bit flipped."""
+    s, d = number(5), number(6)
+    for day in DAYS:
+        row_and_flipped(s, d, day, between(1, 4), R)
+    for rating in RATINGS:
+        row_and_flipped(s, d, either(ZERO, TEN), rating, R)
+    for x in FREE + around(S_MIN, S_MAX):
+        row_and_flipped(x, d, either(ZERO, TEN), between(1, 4), R)
+    for x in FREE + around(D_MIN, D_MAX):
+        row_and_flipped(s, x, either(ZERO, TEN), between(1, 4), R)
+    for x in FREE + around(number("0.0001"), number("0.9999")) + [ONE, neg(ONE)]:
+        row_and_flipped(s, d, either(ZERO, TEN), between(1, 4), x)
+
+
+def row_and_flipped(*row):
+    ours = right(*row) if row_refusal(row[0], row[1], row[2], row[4]) == 0 else (S_MIN, D_MIN, ZERO)
+    ask_row(*row, ours)
+    i = below(3)
+    ask_row(*row, with_field(ours, i, ours[i] ^ 1 << below(32)))
+
+
+def row_weight_cases():
+    """1, 2 and 13 before any verdict, whatever is claimed."""
+    bad = [with_one(FSRS6_DEFAULT_PARAMETERS, 20, up(ONE)), with_one(FSRS6_DEFAULT_PARAMETERS, 0, NONE)]
+    for w in bad + [FSRS6_DEFAULT_PARAMETERS[:20], [], FSRS6_DEFAULT_PARAMETERS]:
+        take(w)
+        for x in (ONE, INF, NONE):
+            for claimed in ((ZERO, ZERO, ZERO), (NONE, NONE, NONE)):
+                ask_row(x, D_MIN, ONE, 3, R, claimed)
+                ask_row(ONE, x, ONE, 3, R, claimed)
+                ask_row(ONE, D_MIN, x, 3, R, claimed)
+                ask_row(ONE, D_MIN, ONE, 3, x, claimed)
+
+
+def row_cases():
+    remark("check_row: each bit of each field flipped, zeros, infinities and NaNs claimed, several fields wrong, other readings")
+    take(FSRS6_DEFAULT_PARAMETERS)
+    row_judged_cases()
+    remark("check_row: days, ratings, states and retentions at their ends, each accepted and with one bit flipped")
+    row_edge_cases()
+    remark("check_row: 1, 2 and 13, before any verdict")
+    row_weight_cases()
+    remark("check_row: corners of the box, and pseudo-random")
+    for w in [LOWEST, HIGHEST, NEGATIVE_ZEROS] + [some_set() for _ in range(20)]:
+        take(w)
+        for _ in range(2):
+            row_and_flipped(
+                some_single(S_MIN, S_MAX), some_single(D_MIN, D_MAX), some_day(), between(1, 4), some_single(number("0.0001"), ONE))
+
+
 def main():
     remark("Test vectors of domain and model_v6, seed %d: made by tools/vectors/study.py, which says how" % seeded())
     remark("domain: comparing")
@@ -903,6 +1002,7 @@ def main():
         some_cases()
     sm2_cases()
     on_day_cases()
+    row_cases()
     lines.write()
 
 

@@ -38,6 +38,7 @@ mod penalty;
 mod raw;
 mod record;
 mod refusal;
+mod rows;
 mod step;
 
 pub use formulas::{
@@ -54,6 +55,7 @@ pub use losses::{
 pub use penalty::l2_penalty;
 pub use record::{record, Branch, Record};
 pub use refusal::Refusal;
+pub use rows::{check_row, Claimed, Verdict};
 pub use step::{training_step, training_step_backward, StateGradient, Step, Stepped};
 
 /// How many weights a set has, and slots a gradient.

@@ -4,7 +4,9 @@
 //! a slice's pointer also where it is empty; as many entries as the slice's length says; and nothing else that is lent
 //! overlaps what is lent by `&mut`. This is the ground of every call below.
 
-use crate::{Align, Cards, Prefixes, Refusal, Seen, State, StateGradient, Step, Stepped, RECORD, WEIGHTS};
+use crate::{
+    Align, Cards, Claimed, Prefixes, Refusal, Seen, State, StateGradient, Step, Stepped, Verdict, RECORD, WEIGHTS,
+};
 
 /// The declarations, as in the header. Of a loss that is the function that takes the mode.
 mod c {
@@ -85,6 +87,19 @@ mod c {
             next_stability: *mut f32,
             next_difficulty: *mut f32,
             next_seen: *mut u32,
+        ) -> u32;
+        pub fn fsrs_check_row(
+            w: *const f32,
+            w_len: usize,
+            stability: f32,
+            difficulty: f32,
+            day: f32,
+            rating: u32,
+            retention: f32,
+            stability_after: u32,
+            difficulty_after: u32,
+            interval: u32,
+            verdict: *mut u32,
         ) -> u32;
         pub fn fsrs_memory_state_from_sm2(
             w: *const f32,
@@ -328,6 +343,34 @@ pub fn next_state_on(w: &[f32], q: Seen, day: u32, rating: u32) -> Result<Seen, 
         )
     };
     Refusal::accepted(number, next)
+}
+
+pub fn check_row(
+    w: &[f32],
+    q: State,
+    day: f32,
+    rating: u32,
+    retention: f32,
+    claimed: Claimed,
+) -> Result<Verdict, Refusal> {
+    let mut verdict = 0;
+    // SAFETY: w is a slice with its own length; the place is this function's.
+    let number = unsafe {
+        c::fsrs_check_row(
+            w.as_ptr(),
+            w.len(),
+            q.stability,
+            q.difficulty,
+            day,
+            rating,
+            retention,
+            claimed.stability,
+            claimed.difficulty,
+            claimed.interval,
+            &mut verdict,
+        )
+    };
+    Refusal::accepted(number, Verdict::of_number(verdict))
 }
 
 pub fn memory_state_from_sm2(w: &[f32], ease_factor: f32, interval: f32, sm2_retention: f32) -> Result<State, Refusal> {

@@ -98,7 +98,7 @@ macro_rules! function {
     };
 }
 
-const FORMULAS: [Function; 12] = [
+const FORMULAS: [Function; 13] = [
     function!(|x| power_forgetting_curve(&x.w, x.step.day, x.step.state.stability)),
     function!(|x| next_interval(&x.w, x.step.state.stability, 0.9)),
     function!(|x| init_difficulty(&x.w, x.rating)),
@@ -110,6 +110,7 @@ const FORMULAS: [Function; 12] = [
     function!(|x| first_state(&x.w, x.rating)),
     function!(|x| next_state(&x.w, x.step.state, x.step.day, x.rating)),
     function!(|x| next_state_on(&x.w, Seen { state: x.step.state, day: 19000 }, 19004, x.rating)),
+    function!(|x| check_row(&x.w, x.step.state, x.step.day, x.rating, 0.9, Claimed::default())),
     function!(|x| memory_state_from_sm2(&x.w, 2.5, x.step.state.stability, 0.9)),
 ];
 const FILL: Function = function!(|x| check_and_fill_parameters(&x.w));
@@ -211,6 +212,56 @@ fn days_are_carried() {
             assert_eq!(Ok(after.state), next_state(&x.w, x.step.state, (day - seen) as f32, rating));
             assert_eq!(after.day, day);
         }
+    }
+}
+
+/// What the formulas give is accepted, and every flipped bit is seen, in the first field that has one.
+#[test]
+fn rows_are_judged_by_their_first_wrong_field() {
+    let x = Call::good();
+    for day in [0.0, 0.4, 4.0, -7.0, 100000.0] {
+        for rating in 0..=5 {
+            let after = next_state(&x.w, x.step.state, day, rating).expect("a state");
+            let ours = Claimed::of_floats(after, next_interval(&x.w, after.stability, 0.85).expect("an interval"));
+            let check = |claimed| check_row(&x.w, x.step.state, day, rating, 0.85, claimed);
+            assert_eq!(check(ours), Ok(Verdict::Accepted));
+            for bit in 0..32 {
+                let flip = |s: u32, d: u32, i: u32| Claimed {
+                    stability: ours.stability ^ s << bit,
+                    difficulty: ours.difficulty ^ d << bit,
+                    interval: ours.interval ^ i << bit,
+                };
+                for i in [0, 1] {
+                    assert_eq!(check(flip(1, 0, i)), Ok(Verdict::Stability));
+                    assert_eq!(check(flip(1, 1, i)), Ok(Verdict::Stability));
+                    assert_eq!(check(flip(0, 1, i)), Ok(Verdict::Difficulty));
+                }
+                assert_eq!(check(flip(0, 0, 1)), Ok(Verdict::Interval));
+            }
+        }
+    }
+}
+
+/// 1, 2 and 13 come before any verdict, and nothing that is claimed is refused.
+#[test]
+fn rows_are_refused() {
+    let mut w = Call::good().w;
+    let good = Call::good().step.state;
+    for x in [f32::INFINITY, f32::NEG_INFINITY, f32::NAN] {
+        let claimed = Claimed::of_floats(State { stability: x, difficulty: x }, x);
+        let refused = |w: &[f32], state, day, retention, refusal| {
+            assert_eq!(check_row(w, state, day, 3, retention, claimed), Err(refusal), "{x}")
+        };
+        assert_eq!(check_row(&w, good, 4.0, 3, 0.9, claimed), Ok(Verdict::Stability));
+        refused(&w, State { stability: x, ..good }, 4.0, 0.9, Refusal::Scalar);
+        refused(&w, State { difficulty: x, ..good }, 4.0, 0.9, Refusal::Scalar);
+        refused(&w, good, x, 0.9, Refusal::Scalar);
+        refused(&w, good, BEYOND, 0.9, Refusal::Scalar);
+        refused(&w, good, 4.0, x, Refusal::Scalar);
+        refused(&w[..20], good, 4.0, x, Refusal::WeightCount);
+        w[20] = 1.5;
+        refused(&w, good, 4.0, x, Refusal::WeightBox);
+        w[20] = 0.5;
     }
 }
 

@@ -115,6 +115,12 @@ fn study() {
                 });
                 return Some((is, (a[5], if a[5] == 0 { a[6..].to_vec() } else { vec![] })));
             }
+            'R' => {
+                let state = State { stability: x, difficulty: y };
+                let claimed = Claimed { stability: a[5] as u32, difficulty: a[6] as u32, interval: a[7] as u32 };
+                let is = outcome(check_row(w, state, z, a[3] as u32, single(a[4]), claimed), |v| vec![v as u64]);
+                return Some((is, (a[8], if a[8] == 0 { vec![a[9]] } else { vec![] })));
+            }
             'P' => two(memory_state_from_sm2(w, x, y, z)),
             _ => return None,
         };

@@ -15,7 +15,10 @@ ghost use Rattle.model_v6.specs.Answers.{
   sm2Scalar,
 };
 ghost use Rattle.model_v6.specs.Filling.{fillAnswer};
+ghost use Rattle.model_v6.specs.Rows.{rowCheck, refusalOf, verdictOf};
 ghost use Rattle.model_v6.specs.Seen.{onDayScalar};
+ghost use Rattle.model_v6.specs.declared.rows.Claimed.{Claimed};
+ghost use Rattle.model_v6.specs.declared.state.MemoryState.{MemoryState};
 use crate::places::put_f32;
 use crate::places::put_u32;
 use crate::places::put_weights;
@@ -25,6 +28,10 @@ use model_v6::difficulty::init_difficulty_scalar;
 use model_v6::difficulty::mean_reversion_scalar;
 use model_v6::difficulty::next_difficulty_scalar;
 use model_v6::filling::check_and_fill_parameters_fsrs6;
+use model_v6::rows::Claimed;
+use model_v6::rows::check_row;
+use model_v6::rows::refusal_of;
+use model_v6::rows::verdict_of;
 use model_v6::seen::Seen;
 use model_v6::seen::next_state_on_scalar;
 use model_v6::sm2::memory_state_from_sm2_scalar;
@@ -236,6 +243,43 @@ pub extern "C" fn fsrs_next_state_on(
     put_f32(next_difficulty, a.refusal, next.difficulty);
     put_u32(next_seen, a.refusal, after.day);
     a.refusal
+}
+
+// The three claimed numbers are the bits of singles, so that none is changed on its way in.
+#[no_mangle]
+pub extern "C" fn fsrs_check_row(
+    w: &[f32],
+    stability: f32,
+    difficulty: f32,
+    day: f32,
+    rating: u32,
+    retention: f32,
+    stability_after: u32,
+    difficulty_after: u32,
+    interval: u32,
+    verdict: &mut u32,
+) -> u32
+    ensures { λ n. ⌜
+        (let state : MemoryState = record { stability = stability; difficulty = difficulty } in
+        let claimed : Claimed = record { stability = «stability_after»; difficulty = «difficulty_after»; interval = interval } in
+        let a = rowCheck (now (w .entry)) state day rating retention claimed in
+        (n ≡ refusalOf a) ×
+        (now (verdict .exit) ≡ written (refusalOf a) (verdictOf a) (now (verdict .entry)))) ⌝ }
+{
+    let state = MemoryState {
+        stability,
+        difficulty,
+    };
+    let claimed = Claimed {
+        stability: stability_after,
+        difficulty: difficulty_after,
+        interval,
+    };
+    let a = check_row(w, state, day, rating, retention, claimed);
+    let n = refusal_of(a);
+    let v = verdict_of(a);
+    put_u32(verdict, n, v);
+    n
 }
 
 #[no_mangle]

@@ -16,3 +16,5 @@ pub mod Reads
 pub mod Columns
 pub mod Losses
 pub mod Scalars
+pub mod Factor
+pub mod Interval

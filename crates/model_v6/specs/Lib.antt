@@ -3,6 +3,7 @@ pub mod Curve
 pub mod Difficulty
 pub mod Filling
 pub mod NextState
+pub mod Rows
 pub mod Seen
 pub mod Sm2
 pub mod Stability

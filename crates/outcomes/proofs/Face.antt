@@ -16,6 +16,7 @@ use Rattle.fsrs6.proofs.study.fsrs_power_forgetting_curve
 use Rattle.fsrs6.proofs.study.fsrs_next_interval
 use Rattle.fsrs6.proofs.study.fsrs_next_state
 use Rattle.fsrs6.proofs.study.fsrs_next_state_on
+use Rattle.fsrs6.proofs.study.fsrs_check_row
 use Rattle.fsrs6.proofs.study.fsrs_first_state
 use Rattle.fsrs6.proofs.study.fsrs_memory_state_from_sm2
 use Rattle.fsrs6.proofs.study.fsrs_check_and_fill_parameters
@@ -84,6 +85,9 @@ one-fsrs-next-state = one (λ κs a o c. c .0 ⨾ none ⨾ none ⨾ none ⨾ non
 
 pub one-fsrs-next-state-on : One fsrs_next_state_on.Kinds.ps fsrs_next_state_on.Kinds.r fsrs_next_state_on.Reads.Post
 one-fsrs-next-state-on = one (λ κs a o c. c .0 ⨾ none ⨾ none ⨾ none ⨾ none ⨾ none ⨾ none ⨾ c .1 ⨾ c .2 ⨾ c .3 ⨾ end)
+
+pub one-fsrs-check-row : One fsrs_check_row.Kinds.ps fsrs_check_row.Kinds.r fsrs_check_row.Reads.Post
+one-fsrs-check-row = one (λ κs a o c. c .0 ⨾ none ⨾ none ⨾ none ⨾ none ⨾ none ⨾ none ⨾ none ⨾ none ⨾ none ⨾ c .1 ⨾ end)
 
 pub one-fsrs-first-state : One fsrs_first_state.Kinds.ps fsrs_first_state.Kinds.r fsrs_first_state.Reads.Post
 one-fsrs-first-state = one (λ κs a o c. c .0 ⨾ none ⨾ none ⨾ c .1 ⨾ c .2 ⨾ end)

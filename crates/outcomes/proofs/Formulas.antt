@@ -32,6 +32,9 @@ use Rattle.model_v6.proofs.stability.stability_short_term_scalar
 use Rattle.model_v6.proofs.state.next_state_scalar
 use Rattle.model_v6.proofs.state.first_state_scalar
 use Rattle.model_v6.proofs.seen.next_state_on_scalar
+use Rattle.model_v6.proofs.rows.check_row
+use Rattle.model_v6.proofs.rows.refusal_of
+use Rattle.model_v6.proofs.rows.verdict_of
 use Rattle.model_v6.proofs.sm2.memory_state_from_sm2_scalar
 
 -- soft::flags
@@ -142,6 +145,16 @@ one-first-state-scalar = one (λ κs a o c. c ⨾ none ⨾ none ⨾ end)
 -- model_v6::seen
 pub one-next-state-on-scalar : One next_state_on_scalar.Kinds.ps next_state_on_scalar.Kinds.r next_state_on_scalar.Reads.Post
 one-next-state-on-scalar = one (λ κs a o c. c ⨾ none ⨾ none ⨾ none ⨾ none ⨾ end)
+
+-- model_v6::rows
+pub one-check-row : One check_row.Kinds.ps check_row.Kinds.r check_row.Reads.Post
+one-check-row = one (λ κs a o c. c ⨾ none ⨾ none ⨾ none ⨾ none ⨾ none ⨾ none ⨾ end)
+
+pub one-refusal-of : One refusal_of.Kinds.ps refusal_of.Kinds.r refusal_of.Reads.Post
+one-refusal-of = one (λ κs a o c. c ⨾ none ⨾ end)
+
+pub one-verdict-of : One verdict_of.Kinds.ps verdict_of.Kinds.r verdict_of.Reads.Post
+one-verdict-of = one (λ κs a o c. c ⨾ none ⨾ end)
 
 -- model_v6::sm2
 pub one-memory-state-from-sm2-scalar : One memory_state_from_sm2_scalar.Kinds.ps memory_state_from_sm2_scalar.Kinds.r memory_state_from_sm2_scalar.Reads.Post

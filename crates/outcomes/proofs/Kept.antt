@@ -14,6 +14,7 @@ use Rattle.fsrs6.proofs.study.fsrs_power_forgetting_curve
 use Rattle.fsrs6.proofs.study.fsrs_next_interval
 use Rattle.fsrs6.proofs.study.fsrs_next_state
 use Rattle.fsrs6.proofs.study.fsrs_next_state_on
+use Rattle.fsrs6.proofs.study.fsrs_check_row
 use Rattle.fsrs6.proofs.study.fsrs_first_state
 use Rattle.fsrs6.proofs.study.fsrs_memory_state_from_sm2
 use Rattle.fsrs6.proofs.study.fsrs_check_and_fill_parameters
@@ -82,6 +83,9 @@ kept-fsrs-next-state = keeps (λ κs a o c. c .0) (λ κs a o c h. still ⨾ sti
 
 pub kept-fsrs-next-state-on : Kept fsrs_next_state_on.Kinds.ps fsrs_next_state_on.Kinds.r (λ κs a n. n) (λ κs e. e) fsrs_next_state_on.Reads.Post
 kept-fsrs-next-state-on = keeps (λ κs a o c. c .0) (λ κs a o c h. still ⨾ still ⨾ still ⨾ still ⨾ still ⨾ still ⨾ back (c .1 ∙ search refused) ⨾ back (c .2 ∙ search refused) ⨾ back (c .3 ∙ search refused) ⨾ end)
+
+pub kept-fsrs-check-row : Kept fsrs_check_row.Kinds.ps fsrs_check_row.Kinds.r (λ κs a n. n) (λ κs e. e) fsrs_check_row.Reads.Post
+kept-fsrs-check-row = keeps (λ κs a o c. c .0) (λ κs a o c h. still ⨾ still ⨾ still ⨾ still ⨾ still ⨾ still ⨾ still ⨾ still ⨾ still ⨾ back (c .1 ∙ search refused) ⨾ end)
 
 pub kept-fsrs-first-state : Kept fsrs_first_state.Kinds.ps fsrs_first_state.Kinds.r (λ κs a n. n) (λ κs e. e) fsrs_first_state.Reads.Post
 kept-fsrs-first-state = keeps (λ κs a o c. c .0) (λ κs a o c h. still ⨾ still ⨾ back (c .1 ∙ search refused) ⨾ back (c .2 ∙ search refused) ⨾ end)

@@ -9,6 +9,7 @@ pub mod Carried
 pub mod Imported
 pub mod Layouts
 pub mod Pulled
+pub mod Rows
 pub mod Weightless
 pub mod Twelve
 pub mod Promises

@@ -8,4 +8,5 @@ pub mod Layouts
 pub mod Pulled
 pub mod LossCalls
 pub mod Promises
+pub mod Rows
 pub mod Twelve

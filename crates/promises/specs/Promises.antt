@@ -11,6 +11,7 @@ use Rattle.promises.specs.Frozen.{Demand3}
 use Rattle.promises.specs.Imported.{Imported}
 use Rattle.promises.specs.Layouts.{TwoLayouts}
 use Rattle.promises.specs.Pulled.{Pulled}
+use Rattle.promises.specs.Rows.{Rows}
 
 pub record Promises : Type 0 where
   -- demand 2: exp, ln and pow 'lie within document 01's distances of its exact fractions', in single and in double (laws/specs/Distances.antt)
@@ -33,3 +34,5 @@ pub record Promises : Type 0 where
   -- change request K14: no silent NaN in the forward pass of an accepted loss call (Finite.antt), whose kernel calls are those of the formulas (laws/specs/KernelCalls.antt)
   pub no-silent-nan : NoSilentNaNs
   pub kernel-calls : Ties
+  -- change request K9: rows that an app has worked out for itself (Rows.antt)
+  pub exported-rows : Rows

@@ -173,11 +173,11 @@ fn run_study() {
         check_and_fill_parameters_fsrs6 power_forgetting_curve_scalar next_interval_scalar \
         stability_after_success_scalar stability_after_failure_scalar stability_short_term_scalar \
         init_difficulty_scalar mean_reversion_scalar next_difficulty_scalar next_state_scalar \
-        memory_state_from_sm2_scalar next_state_on_scalar malformed ";
+        memory_state_from_sm2_scalar next_state_on_scalar check_row malformed ";
     run_list(
         Kind::Study,
         b"study",
-        b"cxnfiosvdpqtbaukFCISLTEMDNPO",
+        b"cxnfiosvdpqtbaukFCISLTEMDNPOR",
         names,
     );
 }

@@ -6,6 +6,7 @@ use crate::patterns::u32_of;
 use crate::study::answers::is_filled;
 use crate::study::answers::is_next;
 use crate::study::answers::is_refusal;
+use crate::study::answers::is_row;
 use crate::study::answers::is_scalar;
 use crate::study::answers::is_seen;
 use crate::study::answers::is_state;
@@ -15,6 +16,8 @@ use crate::study::answers::is_weights;
 use domain::floats;
 use domain::limits;
 use model_v6::curve;
+use model_v6::rows::Claimed;
+use model_v6::rows::check_row;
 use model_v6::seen::Seen;
 use model_v6::seen::next_state_on_scalar;
 use model_v6::state;
@@ -25,6 +28,7 @@ pub fn is_call(letter: u8, n: usize) -> bool {
     match letter {
         b'u' | b'k' | b'F' => n == 22,
         b'O' => n == 9,
+        b'R' => n == 10,
         _ => n == 7,
     }
 }
@@ -87,6 +91,22 @@ fn seen_passes(k: &[u64; 640], w: &[f32]) -> bool {
     )
 }
 
+fn row_passes(k: &[u64; 640], w: &[f32]) -> bool {
+    let state = MemoryState {
+        stability: f32_of(k[0]),
+        difficulty: f32_of(k[1]),
+    };
+    let claimed = Claimed {
+        stability: u32_of(k[5]),
+        difficulty: u32_of(k[6]),
+        interval: u32_of(k[7]),
+    };
+    is_row(
+        k,
+        check_row(w, state, f32_of(k[2]), u32_of(k[3]), f32_of(k[4]), claimed),
+    )
+}
+
 fn model_passes(letter: u8, k: &[u64; 640], w: &[f32]) -> bool {
     let x = f32_of(k[0]);
     let y = f32_of(k[1]);
@@ -117,6 +137,7 @@ fn model_passes(letter: u8, k: &[u64; 640], w: &[f32]) -> bool {
         ),
         b'N' => state_passes(k, w),
         b'O' => seen_passes(k, w),
+        b'R' => row_passes(k, w),
         b'P' => is_state(k, model_v6::sm2::memory_state_from_sm2_scalar(w, x, y, z)),
         _ => false,
     }

@@ -8,6 +8,9 @@ use crate::patterns::pattern_u32;
 use crate::patterns::u32_of;
 use model_v6::answers::Scalar;
 use model_v6::filling::Filled;
+use model_v6::rows::RowCheck;
+use model_v6::rows::refusal_of;
+use model_v6::rows::verdict_of;
 use model_v6::seen::NextSeen;
 use model_v6::state::MemoryState;
 use model_v6::state::NextState;
@@ -60,6 +63,11 @@ pub fn is_seen(k: &[u64; 640], q: NextSeen) -> bool {
     pattern_f32(state.stability) == k[6]
         && pattern_f32(state.difficulty) == k[7]
         && pattern_u32(seen.day) == k[8]
+}
+
+// A row has eight arguments, and its verdict is a number.
+pub fn is_row(k: &[u64; 640], q: RowCheck) -> bool {
+    pattern_u32(refusal_of(q)) == k[8] && pattern_u32(verdict_of(q)) == k[9]
 }
 
 fn same_weights(k: &[u64; 640], w: &[f32; 21]) -> bool {
