@@ -26,7 +26,13 @@ struct BranchCells {
 pub fn room(records: &[f32]) -> usize
     ensures { λ r. ⌜ r ≡ roomDef (length (now (records .entry))) ⌝ }
 {
-    records.len() / 10
+    room_of(records.len())
+}
+
+fn room_of(cells: usize) -> usize
+    ensures { λ r. ⌜ r ≡ roomDef cells ⌝ }
+{
+    cells / 10
 }
 
 // The cell of a field, 0 to 9, and a row.
@@ -45,11 +51,29 @@ fn put(records: &mut [f32], cells: usize, field: u32, row: u32, x: f32)
     write(records, k, x);
 }
 
+// As `put`, of a row that every column has: one test of the row stands for ten of its cells.
+fn put_in(records: &mut [f32], cells: usize, field: u32, row: u32, x: f32)
+    requires { ⌜ (field < 10) × (row < roomDef cells) × (cells ≡ length (now records)) ⌝ }
+    ensures { λ r. ⌜ now (records .exit) ≡ set (now (records .entry)) (place cells field row) x ⌝ }
+{
+    let k = place_of(cells, field, row);
+    records[k] = x;
+}
+
 fn get(records: &[f32], cells: usize, field: u32, row: u32) -> f32
     requires { ⌜ field < 10 ⌝ }
     ensures { λ r. ⌜ r ≡ now (records .entry) ! place cells field row ⌝ }
 {
     read(records, place_of(cells, field, row))
+}
+
+// As `get`, of a row that every column has.
+fn get_in(records: &[f32], cells: usize, field: u32, row: u32) -> f32
+    requires { ⌜ (field < 10) × (row < roomDef cells) × (cells ≡ length (now records)) ⌝ }
+    ensures { λ r. ⌜ r ≡ now (records .entry) ! place cells field row ⌝ }
+{
+    let k = place_of(cells, field, row);
+    records[k]
 }
 
 fn plain(number: f32) -> BranchCells
@@ -158,11 +182,50 @@ fn store_branch(records: &mut [f32], cells: usize, row: u32, branch: Branch)
     put(records, cells, 9, row, b);
 }
 
+fn store_values_in(records: &mut [f32], cells: usize, row: u32, step: StepRecord)
+    requires { ⌜ (row < roomDef cells) × (cells ≡ length (now records)) ⌝ }
+    ensures { λ r. ⌜ now (records .exit) ≡ putAll cells row 0 (stepValues step) (now (records .entry)) ⌝ }
+{
+    let state = step.state;
+    let s = state.s;
+    let d = state.d;
+    let day = step.day;
+    let rating = step.rating;
+    let retrievability = step.retrievability;
+    let pre_s = step.pre_s;
+    let pre_d = step.pre_d;
+    put_in(records, cells, 0, row, s);
+    put_in(records, cells, 1, row, d);
+    put_in(records, cells, 2, row, day);
+    put_in(records, cells, 3, row, rating);
+    put_in(records, cells, 4, row, retrievability);
+    put_in(records, cells, 5, row, pre_s);
+    put_in(records, cells, 6, row, pre_d);
+}
+
+fn store_branch_in(records: &mut [f32], cells: usize, row: u32, branch: Branch)
+    requires { ⌜ (row < roomDef cells) × (cells ≡ length (now records)) ⌝ }
+    ensures { λ r. ⌜ now (records .exit) ≡ putAll cells row 7 (branchValues branch) (now (records .entry)) ⌝ }
+{
+    let c = branch_cells(branch);
+    let number = c.number;
+    let a = c.a;
+    let b = c.b;
+    put_in(records, cells, 7, row, number);
+    put_in(records, cells, 8, row, a);
+    put_in(records, cells, 9, row, b);
+}
+
 pub fn store_step(records: &mut [f32], row: u32, step: StepRecord)
     ensures { λ r. ⌜ now (records .exit) ≡ storeDef row step (now (records .entry)) ⌝ }
 {
     let cells = records.len();
     let branch = step.branch;
+    if (row as usize) < room_of(cells) {
+        store_values_in(records, cells, row, step);
+        store_branch_in(records, cells, row, branch);
+        return;
+    }
     store_values(records, cells, row, step);
     store_branch(records, cells, row, branch);
 }
@@ -176,11 +239,43 @@ fn load_branch(records: &[f32], cells: usize, row: u32, rating: f32) -> Branch
     branch_of(number, rating, a, b)
 }
 
+fn load_in(records: &[f32], cells: usize, row: u32) -> StepRecord
+    requires { ⌜ (row < roomDef cells) × (cells ≡ length (now records)) ⌝ }
+    ensures { λ r. ⌜ r ≡ loadDef row (now (records .entry)) ⌝ }
+{
+    let s = get_in(records, cells, 0, row);
+    let d = get_in(records, cells, 1, row);
+    let day = get_in(records, cells, 2, row);
+    let rating = get_in(records, cells, 3, row);
+    let retrievability = get_in(records, cells, 4, row);
+    let pre_s = get_in(records, cells, 5, row);
+    let pre_d = get_in(records, cells, 6, row);
+    let number = get_in(records, cells, 7, row);
+    let a = get_in(records, cells, 8, row);
+    let b = get_in(records, cells, 9, row);
+    let branch = branch_of(number, rating, a, b);
+    let state = State { s, d };
+    let last = clamp_state(state);
+    StepRecord {
+        state,
+        last,
+        day,
+        rating,
+        retrievability,
+        pre_s,
+        pre_d,
+        branch,
+    }
+}
+
 // The clamped state is worked out again.
 pub(crate) fn load_step(records: &[f32], row: u32) -> StepRecord
     ensures { λ r. ⌜ r ≡ loadDef row (now (records .entry)) ⌝ }
 {
     let cells = records.len();
+    if (row as usize) < room_of(cells) {
+        return load_in(records, cells, row);
+    }
     let s = get(records, cells, 0, row);
     let d = get(records, cells, 1, row);
     let day = get(records, cells, 2, row);

@@ -3,6 +3,15 @@ use borrow.Author.Needs.{needs}
 use Rattle.columns.proofs.records.load_step.Statement.{statement}
 use Rattle.columns.proofs.records.load_step.Tie as tie
 
+room-of-requires : tie.Need-room-of-requires
+room-of-requires c κs = search needs
+
+load-in-requires : tie.Need-load-in-requires
+load-in-requires c κs = search needs
+
+returns : tie.Need-returns
+returns c = c .load-in .ensures
+
 get-requires : tie.Need-get-requires
 get-requires c κs = search needs
 
@@ -30,9 +39,9 @@ load-branch-requires c κs = search needs
 clamp-state-requires : tie.Need-clamp-state-requires
 clamp-state-requires c κs = search needs
 
-returns : tie.Need-returns
+returns-2 : tie.Need-returns-2
 unfolding loadDef
-returns c =
+returns-2 c =
     let at-get7 = c .before .before in
     let at-get6 = at-get7 .before in
     let at-get5 = at-get6 .before in
@@ -46,6 +55,9 @@ pub load-step-spec : {M : Type 1} → statement M
 load-step-spec =
     tie.close
     (tie.spec
+    room-of-requires
+    load-in-requires
+    returns
     get-requires
     get-requires-2
     get-requires-3
@@ -55,4 +67,4 @@ load-step-spec =
     get-requires-7
     load-branch-requires
     clamp-state-requires
-    returns)
+    returns-2)

@@ -1,10 +1,12 @@
-use Rattle.columns.specs.Records.{roomDef}
+use borrow.Author.Needs.{needs}
 use Rattle.columns.proofs.records.room.Statement.{statement}
 use Rattle.columns.proofs.records.room.Tie as tie
 
+room-of-requires : tie.Need-room-of-requires
+room-of-requires c κs = search needs
+
 returns : tie.Need-returns
-unfolding roomDef
 returns c = cc
 
 pub room-spec : {M : Type 1} → statement M
-room-spec = tie.close (tie.spec returns)
+room-spec = tie.close (tie.spec room-of-requires returns)
