@@ -1,25 +1,25 @@
 // Nanoseconds of the two losses and of the kernels: ours, and the Rust's own text over its standard library.
 //
 //     bench                                 the tables, in markdown
-//     bench LOSS SIDE ROWS COLUMNS CALLS    batch or card, ours or rust, so often: for a profiler
+//     bench --lines                         a line for each loss and number of rows, for a script
+//     bench LOSS SIDE ROWS COLUMNS CALLS    batch or card, ours, mixed or rust, so often: for a profiler
 //
-// run lays the Rust's text beside this file, unchanged, as the module analytic_v6. Both sides are called through a function
+// run lays the Rust's text beside this file as the module analytic_v6, and once more, over our kernels, as analytic_ours: what that
+// takes beyond the text itself is the kernels', and the rest of ours is the passes and the checks. All three are called through a function
 // that is not inlined, in turn, and the smallest of many short times counts, on the clock of this thread: others use the
 // processor too.
 #[allow(dead_code)]
+mod analytic_ours;
+#[allow(dead_code)]
 mod analytic_v6;
+mod kernels;
 mod simulation;
 
+use kernels::*;
 use std::hint::black_box;
 
 extern "C" {
     fn clock_gettime(clock: i32, time: *mut [i64; 2]) -> i32;
-    fn fsrs_exp_f32(x: f32) -> f32;
-    fn fsrs_exp_f64(x: f64) -> f64;
-    fn fsrs_ln_f32(x: f32) -> f32;
-    fn fsrs_ln_f64(x: f64) -> f64;
-    fn fsrs_pow_f32(x: f32, y: f32) -> f32;
-    fn fsrs_pow_f64(x: f64, y: f64) -> f64;
     #[rustfmt::skip]
     fn fsrs_batch_loss_and_grad(
         w: *const f32, w_len: usize, t_hist: *const f32, t_hist_len: usize, r_hist: *const f32, r_hist_len: usize,
@@ -33,6 +33,18 @@ extern "C" {
         seq_len: u32, batch: u32, seq_lens: *const u32, seq_lens_len: usize, labels: *const f32, labels_len: usize,
         weights: *const f32, weights_len: usize, gw: *mut f64, gw_len: usize, records: *mut f32, records_len: usize,
         step_grads: *mut f64, step_grads_len: usize, loss: *mut f64,
+    ) -> u32;
+    #[rustfmt::skip]
+    fn fsrs_batch_loss(
+        w: *const f32, w_len: usize, t_hist: *const f32, t_hist_len: usize, r_hist: *const f32, r_hist_len: usize,
+        seq_len: u32, batch: u32, seq_lens: *const u32, seq_lens_len: usize, delta_ts: *const f32, delta_ts_len: usize,
+        labels: *const f32, labels_len: usize, weights: *const f32, weights_len: usize, loss: *mut f64,
+    ) -> u32;
+    #[rustfmt::skip]
+    fn fsrs_card_loss(
+        w: *const f32, w_len: usize, t_hist: *const f32, t_hist_len: usize, r_hist: *const f32, r_hist_len: usize,
+        seq_len: u32, batch: u32, seq_lens: *const u32, seq_lens_len: usize, labels: *const f32, labels_len: usize,
+        weights: *const f32, weights_len: usize, loss: *mut f64,
     ) -> u32;
 }
 
@@ -142,19 +154,39 @@ fn room(rows: usize) -> Room {
     Room { gw: [0.0; 21], records: vec![0.0; 10 * rows], step_grads: vec![0.0; rows] }
 }
 
-#[inline(never)]
-fn batch_rust(b: &Batch, r: &mut Room) -> f64 {
-    analytic_v6::batch_loss_and_grad(
-        &WEIGHTS, &b.days, &b.ratings, b.rows, b.columns, &b.lengths, &b.targets, &b.labels, &b.weights, &mut r.gw,
-    )
+// The four losses of the text, as the module has it.
+macro_rules! text {
+    ($text:ident, $batch:ident, $card:ident, $batch_alone:ident, $card_alone:ident) => {
+        #[inline(never)]
+        fn $batch(b: &Batch, r: &mut Room) -> f64 {
+            $text::batch_loss_and_grad(
+                &WEIGHTS, &b.days, &b.ratings, b.rows, b.columns, &b.lengths, &b.targets, &b.labels, &b.weights, &mut r.gw,
+            )
+        }
+
+        #[inline(never)]
+        fn $card(b: &Batch, r: &mut Room) -> f64 {
+            $text::card_loss_and_grad(
+                &WEIGHTS, &b.days, &b.ratings, b.rows, b.columns, &b.lengths, &b.labels, &b.weights, &mut r.gw,
+            )
+        }
+
+        #[inline(never)]
+        fn $batch_alone(b: &Batch, _: &mut Room) -> f64 {
+            $text::batch_loss(
+                &WEIGHTS, &b.days, &b.ratings, b.rows, b.columns, &b.lengths, &b.targets, &b.labels, &b.weights,
+            )
+        }
+
+        #[inline(never)]
+        fn $card_alone(b: &Batch, _: &mut Room) -> f64 {
+            $text::card_loss(&WEIGHTS, &b.days, &b.ratings, b.rows, b.columns, &b.lengths, &b.labels, &b.weights)
+        }
+    };
 }
 
-#[inline(never)]
-fn card_rust(b: &Batch, r: &mut Room) -> f64 {
-    analytic_v6::card_loss_and_grad(
-        &WEIGHTS, &b.days, &b.ratings, b.rows, b.columns, &b.lengths, &b.labels, &b.weights, &mut r.gw,
-    )
-}
+text!(analytic_v6, batch_rust, card_rust, batch_alone_rust, card_alone_rust);
+text!(analytic_ours, batch_mixed, card_mixed, batch_alone_mixed, card_alone_mixed);
 
 #[inline(never)]
 #[rustfmt::skip]
@@ -188,8 +220,54 @@ fn card_ours(b: &Batch, r: &mut Room) -> f64 {
     loss
 }
 
-const LOSSES: [(&str, Side, Side); 2] =
-    [("batch_loss_and_grad", batch_ours, batch_rust), ("card_loss_and_grad", card_ours, card_rust)];
+// ---- the losses alone
+
+#[inline(never)]
+#[rustfmt::skip]
+fn batch_alone_ours(b: &Batch, _: &mut Room) -> f64 {
+    let mut loss = 0.0;
+    let refusal = unsafe {
+        fsrs_batch_loss(
+            WEIGHTS.as_ptr(), 21, b.days.as_ptr(), b.days.len(), b.ratings.as_ptr(), b.ratings.len(), b.rows as u32,
+            b.columns as u32, b.lengths_u32.as_ptr(), b.lengths_u32.len(), b.targets.as_ptr(), b.targets.len(),
+            b.labels.as_ptr(), b.labels.len(), b.weights.as_ptr(), b.weights.len(), &mut loss,
+        )
+    };
+    assert_eq!(refusal, 0);
+    loss
+}
+
+#[inline(never)]
+#[rustfmt::skip]
+fn card_alone_ours(b: &Batch, _: &mut Room) -> f64 {
+    let mut loss = 0.0;
+    let refusal = unsafe {
+        fsrs_card_loss(
+            WEIGHTS.as_ptr(), 21, b.days.as_ptr(), b.days.len(), b.ratings.as_ptr(), b.ratings.len(), b.rows as u32,
+            b.columns as u32, b.lengths_u32.as_ptr(), b.lengths_u32.len(), b.labels.as_ptr(), b.labels.len(),
+            b.weights.as_ptr(), b.weights.len(), &mut loss,
+        )
+    };
+    assert_eq!(refusal, 0);
+    loss
+}
+
+// Ours, the text over our kernels, and the text.
+type Loss = (&'static str, [Side; 3]);
+
+const GRADS: [Loss; 2] = [
+    ("batch_loss_and_grad", [batch_ours, batch_mixed, batch_rust]),
+    ("card_loss_and_grad", [card_ours, card_mixed, card_rust]),
+];
+
+const ALONE: [Loss; 2] = [
+    ("batch_loss", [batch_alone_ours, batch_alone_mixed, batch_alone_rust]),
+    ("card_loss", [card_alone_ours, card_alone_mixed, card_alone_rust]),
+];
+
+const ROWS: [usize; 3] = [16, 64, 512];
+
+const COLUMNS: usize = 64;
 
 // So that no nonsense is timed: one call of each side gives the same loss and gradient, but for the kernels' last digits.
 fn agree(name: &str, b: &Batch, ours: Side, rust: Side) {
@@ -212,8 +290,8 @@ fn now() -> f64 {
     time[0] as f64 * 1e9 + time[1] as f64
 }
 
-// Nanoseconds of one call of each, in turn: the smallest of the times, and the median of the quotients.
-fn times(mut ours: impl FnMut(), mut rust: impl FnMut()) -> (f64, f64, f64) {
+// Nanoseconds of one call of each, in turn: the smallest of the times, and the median of the quotients of the first by the last.
+fn times<const N: usize>(mut sides: [&mut dyn FnMut(); N]) -> ([f64; N], f64) {
     let time = |f: &mut dyn FnMut(), n: usize| {
         let start = now();
         for _ in 0..n {
@@ -222,40 +300,61 @@ fn times(mut ours: impl FnMut(), mut rust: impl FnMut()) -> (f64, f64, f64) {
         (now() - start) / n as f64
     };
     // about a millisecond a turn
-    let n = (1e6 / time(&mut rust, 1).max(1.0)).ceil() as usize;
+    let n = (1e6 / time(sides[N - 1], 1).max(1.0)).ceil() as usize;
     let turns = 61;
-    let (mut best, mut quotients) = ((f64::MAX, f64::MAX), Vec::new());
+    let (mut best, mut quotients) = ([f64::MAX; N], Vec::new());
     for _ in 0..turns {
-        let (a, b) = (time(&mut ours, n), time(&mut rust, n));
-        best = (best.0.min(a), best.1.min(b));
-        quotients.push(a / b);
+        let mut took = [0.0; N];
+        for (t, f) in took.iter_mut().zip(&mut sides) {
+            *t = time(*f, n);
+        }
+        best = std::array::from_fn(|i| best[i].min(took[i]));
+        quotients.push(took[0] / took[N - 1]);
     }
     quotients.sort_by(f64::total_cmp);
-    (best.0, best.1, quotients[turns / 2])
+    (best, quotients[turns / 2])
 }
 
 // Nanoseconds of one row of one column.
-fn loss_times(ours: Side, rust: Side, rows: usize, columns: usize) -> (f64, f64, f64) {
+fn loss_times(sides: [Side; 3], rows: usize, columns: usize) -> ([f64; 3], f64) {
     let b = batch(rows, columns);
-    let (mut r, mut s) = (room(rows), room(rows));
-    let call = |side: Side, r: &mut Room| {
-        black_box(side(black_box(&b), r));
+    let call = |side: Side| {
+        let (b, mut r) = (&b, room(rows));
+        move || {
+            black_box(side(black_box(b), &mut r));
+        }
     };
-    let t = times(|| call(ours, &mut r), || call(rust, &mut s));
-    let cells = (rows * columns) as f64;
-    (t.0 / cells, t.1 / cells, t.2)
+    let (best, median) = times([&mut call(sides[0]), &mut call(sides[1]), &mut call(sides[2])]);
+    (best.map(|t| t / (rows * columns) as f64), median)
+}
+
+// Each loss at each number of rows: its name, the rows, and the times as `loss_times` gives them.
+fn each_loss(mut told: impl FnMut(&str, usize, ([f64; 3], f64))) {
+    for (name, sides) in GRADS.into_iter().chain(ALONE) {
+        for rows in ROWS {
+            let b = batch(rows, COLUMNS);
+            agree(name, &b, sides[0], sides[2]);
+            agree(name, &b, sides[0], sides[1]);
+            told(name, rows, loss_times(sides, rows, COLUMNS));
+        }
+    }
 }
 
 fn losses() {
-    println!("| loss | rows | columns | ours, ns a row | Rust | ratio | median ratio |");
-    println!("| --- | --- | --- | --- | --- | --- | --- |");
-    for (name, ours, rust) in LOSSES {
-        for rows in [16, 64, 512] {
-            agree(name, &batch(rows, 64), ours, rust);
-            let (a, b, m) = loss_times(ours, rust, rows, 64);
-            println!("| `{name}` | {rows} | 64 | {a:.1} | {b:.1} | {:.2} | {m:.2} |", a / b);
-        }
-    }
+    println!("| loss | rows | columns | ours, ns a row | the Rust's text over our kernels | Rust | ratio | median ratio | of it the kernels |");
+    println!("| --- | --- | --- | --- | --- | --- | --- | --- | --- |");
+    each_loss(|name, rows, ([a, b, c], m)| {
+        println!(
+            "| `{name}` | {rows} | {COLUMNS} | {a:.1} | {b:.1} | {c:.1} | {:.2} | {m:.2} | {:.2} |",
+            a / c,
+            b / c
+        );
+    });
+}
+
+// The median of the quotients, since the processor's clock may rise for one side's smallest time and not for the other's.
+fn lines() {
+    each_loss(|name, rows, ([a, b, c], m)| println!("{name} {rows} {COLUMNS} {a:.1} {b:.1} {c:.1} {m:.3}"));
 }
 
 // Nanoseconds a row as the batch grows one way: level where the time is linear.
@@ -264,8 +363,8 @@ fn growth(title: &str, sizes: &[(usize, usize)]) {
     println!("| --- | --- | --- | --- | --- | --- | --- |");
     for &(rows, columns) in sizes {
         print!("| {} |", if title == "rows" { rows } else { columns });
-        for (_, ours, rust) in LOSSES {
-            let (a, b, _) = loss_times(ours, rust, rows, columns);
+        for (_, sides) in GRADS {
+            let ([a, _, b], _) = loss_times(sides, rows, columns);
             print!(" {a:.1} | {b:.1} | {:.2} |", a / b);
         }
         println!();
@@ -284,8 +383,8 @@ macro_rules! kernel {
         let chained = |f: fn($float, $float) -> $float| {
             black_box(xs.iter().fold(0.0, |z: $float, &(x, y)| f(x + 0.0 * z, y)));
         };
-        let (a, b, _) = times(|| apart(ours), || apart(rust));
-        let (c, d, _) = times(|| chained(ours), || chained(rust));
+        let ([a, b], _) = times([&mut || apart(ours), &mut || apart(rust)]);
+        let ([c, d], _) = times([&mut || chained(ours), &mut || chained(rust)]);
         let n = xs.len() as f64;
         let (a, b, c, d) = (a / n, b / n, c / n, d / n);
         println!("| {} | {a:.1} | {b:.1} | {:.1} | {c:.1} | {d:.1} | {:.1} |", $name, a / b, c / d);
@@ -314,14 +413,17 @@ fn kernels() {
 fn main() {
     let words: Vec<String> = std::env::args().skip(1).collect();
     if let [loss, side, rows, columns, calls] = &words[..] {
-        let (_, ours, rust) = LOSSES[(loss == "card") as usize];
-        let side = if side == "ours" { ours } else { rust };
+        let (_, sides) = GRADS[(loss == "card") as usize];
+        let side = sides[["ours", "mixed", "rust"].iter().position(|s| s == side).unwrap()];
         let b = batch(rows.parse().unwrap(), columns.parse().unwrap());
         let mut r = room(b.rows);
         for _ in 0..calls.parse::<usize>().unwrap() {
             black_box(side(black_box(&b), &mut r));
         }
         return;
+    }
+    if words == ["--lines"] {
+        return lines();
     }
     losses();
     growth("rows", &[16, 32, 64, 128, 256, 512, 1024, 2048].map(|rows| (rows, 64)));
