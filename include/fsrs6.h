@@ -2,7 +2,8 @@
  * proved to be the definition that its crate's specs/ hold. `./lib` writes the archive, target/lib/libfsrs6.a, for x86-64.
  *
  * Every function but the kernels returns the number of its refusal, 0 where the call was accepted, and writes its answers
- * through the places lent to it. A refused call writes nothing. A slice is a pointer and the number of its entries.
+ * through the places lent to it; those that explain return a struct, whose first number it is, and write nothing. A refused
+ * call writes nothing. A slice is a pointer and the number of its entries.
  *
  * A card begins with its first review, whose rating alone gives its state: fsrs_first_state. Every later review is a call of
  * fsrs_next_state_on, which is told its day and the day on which the card was last seen, or of fsrs_next_state, which is told
@@ -229,6 +230,57 @@ uint32_t fsrs_training_step_backward(const float *w, size_t w_len, float stabili
                                      float rating, size_t row, double g_s, double g_d, double g_r, double *gw,
                                      size_t gw_len, double *grad_s, double *grad_d);
 
+/* ---- why a card moved: the rule that gave the stability after a training step. Of this list one holds of a step, and no
+ * other. The numbers up to 5 are those of the branch in a record; a success is told by its rating. */
+enum {
+    FSRS_REASON_PADDING = 0,      /* no review: the state was only clamped */
+    FSRS_REASON_FIRST = 1,        /* a first review: a weight */
+    FSRS_REASON_SAME_DAY_RAW = 2, /* same day: the raw multiplier, which is 1 or more, or the rating is 1 */
+    FSRS_REASON_SAME_DAY_ONE = 3, /* same day: the raw multiplier was below 1, and 1 was taken */
+    FSRS_REASON_LAPSE_RAW = 4,    /* lapse: the raw stability, which the floor is not below */
+    FSRS_REASON_LAPSE_FLOOR = 5,  /* lapse: the floor, which is below the raw stability */
+    FSRS_REASON_SUCCESS = 6,      /* success, rated 3 */
+    FSRS_REASON_SUCCESS_HARD = 7, /* success, rated 2: with weight 15 */
+    FSRS_REASON_SUCCESS_EASY = 8  /* success, rated 4: with weight 16 */
+};
+/* Whether a number of the state after a step was held at an end of its range: the number before the last clamp, or in padding
+ * the given one, lay outside. One that is exactly at an end was not held. */
+enum {
+    FSRS_HELD_FREE = 0,
+    FSRS_HELD_LOW = 1,
+    FSRS_HELD_HIGH = 2
+};
+typedef struct {
+    uint32_t refusal, reason, stability_held, difficulty_held;
+} fsrs_reason;
+/* The reason of the step that fsrs_training_step makes of the same arguments, and which of its two numbers were held. The
+ * refusals are those of that step; beside one the other three numbers are 0. */
+fsrs_reason fsrs_explain_step(const float *w, size_t w_len, float stability, float difficulty, float day, float rating,
+                              size_t row);
+/* A reason, and what was held, in words. */
+static inline const char *fsrs_reason_text(uint32_t number) {
+    static const char *const texts[] = {
+        "padding",
+        "first review",
+        "same day, raw multiplier taken",
+        "same day, multiplier 1 taken",
+        "lapse, raw value taken",
+        "lapse, floor taken",
+        "success",
+        "success, hard",
+        "success, easy",
+    };
+    return number < sizeof texts / sizeof *texts ? texts[number] : "no reason has this number";
+}
+static inline const char *fsrs_held_text(uint32_t number) {
+    static const char *const texts[] = {
+        "not held",
+        "held at its low end",
+        "held at its high end",
+    };
+    return number < sizeof texts / sizeof *texts ? texts[number] : "no end has this number";
+}
+
 /* ---- the losses (analytic_v6.rs) of a batch of seq_len rows (0 to 2048) and batch columns (0 to 512). A column is a
  * history that begins at row 0; for one behind padding there is fsrs_batch_loss_in and its like. t_hist has the days and
  * r_hist the ratings; such a table is time-major: the cell of a row and a column is row * batch + column. seq_lens has the
@@ -323,6 +375,39 @@ uint32_t fsrs_card_loss_and_grad_in(bool end, const float *w, size_t w_len, cons
                                     size_t gw_len, float *records, size_t records_len, double *step_grads,
                                     size_t step_grads_len, double *loss);
 
+/* ---- where a loss call is at fault: for each of the losses the number by which it refuses its inputs and, where that is 6, 7,
+ * 8 or 9, the first bad cell in the order of the refusals: no cell before it is bad.
+ *
+ * column and row count from 0. The row of a prefix's scored review is its length, cut to the rows; that of 9 is 0. A row's 8 is
+ * its weight, or its label if the weight is good. Beside every other number column and row are 0, and an accepted call has 0 in
+ * all three.
+ *
+ * The inputs are those of the loss with the mode. Of what that call is lent to write only the lengths count, and only they are
+ * given: gw_len, records_len, step_grads_len. */
+typedef struct {
+    uint32_t refusal, column, row;
+} fsrs_fault;
+fsrs_fault fsrs_batch_loss_fault(bool end, const float *w, size_t w_len, const float *t_hist, size_t t_hist_len,
+                                 const float *r_hist, size_t r_hist_len, uint32_t seq_len, uint32_t batch,
+                                 const uint32_t *seq_lens, size_t seq_lens_len, const float *delta_ts,
+                                 size_t delta_ts_len, const float *labels, size_t labels_len, const float *weights,
+                                 size_t weights_len);
+fsrs_fault fsrs_batch_loss_and_grad_fault(bool end, const float *w, size_t w_len, const float *t_hist,
+                                          size_t t_hist_len, const float *r_hist, size_t r_hist_len, uint32_t seq_len,
+                                          uint32_t batch, const uint32_t *seq_lens, size_t seq_lens_len,
+                                          const float *delta_ts, size_t delta_ts_len, const float *labels,
+                                          size_t labels_len, const float *weights, size_t weights_len, size_t gw_len,
+                                          size_t records_len);
+fsrs_fault fsrs_card_loss_fault(bool end, const float *w, size_t w_len, const float *t_hist, size_t t_hist_len,
+                                const float *r_hist, size_t r_hist_len, uint32_t seq_len, uint32_t batch,
+                                const uint32_t *seq_lens, size_t seq_lens_len, const float *labels, size_t labels_len,
+                                const float *weights, size_t weights_len);
+fsrs_fault fsrs_card_loss_and_grad_fault(bool end, const float *w, size_t w_len, const float *t_hist, size_t t_hist_len,
+                                         const float *r_hist, size_t r_hist_len, uint32_t seq_len, uint32_t batch,
+                                         const uint32_t *seq_lens, size_t seq_lens_len, const float *labels,
+                                         size_t labels_len, const float *weights, size_t weights_len, size_t gw_len,
+                                         size_t records_len, size_t step_grads_len);
+
 /* ---- a pull toward the old weights (training_v7.rs, l2_penalty_value_and_grad), to be added to a loss so that a small deck
  * gives no wild fit. With scale = l2_weight * batch_size / total_size, all in double, the penalty is the sum over the weights
  * of ((w - init_w) / params_stddev)^2, times scale, and slot i is its derivative by weight i, as a single.
@@ -347,6 +432,8 @@ uint32_t fsrs_l2_penalty(const float *w, size_t w_len, const float *init_w, size
  * They have as many entries as the call wants, so cards have no target days. Lengths are whole numbers, all else is the bits
  * of a single. */
 uint32_t fsrs_batch_file(const uint8_t *file, size_t file_len, double *gw, size_t gw_len, double *loss);
+/* The fault of the call that a file holds, with 21 slots; 11 where it is no batch file. It takes about 130 KB of the stack. */
+fsrs_fault fsrs_batch_file_fault(const uint8_t *file, size_t file_len);
 
 #ifdef __cplusplus
 }

@@ -33,7 +33,7 @@ from array import array
 from ctypes import c_bool, c_double, c_float, c_size_t, c_uint8, c_uint32, c_uint64
 from enum import IntEnum
 from functools import lru_cache
-from typing import TYPE_CHECKING, Any, List, NamedTuple, Sequence, Union
+from typing import TYPE_CHECKING, Any, List, NamedTuple, Optional, Sequence, Union
 
 if TYPE_CHECKING:
     from typing_extensions import Buffer
@@ -51,14 +51,15 @@ __all__ = [
     "RECORD_PRE_DIFFICULTY", "RECORD_BRANCH", "RECORD_BRANCH_RAW", "RECORD_BRANCH_OTHER", "BRANCH_PADDING", "BRANCH_FIRST",
     "BRANCH_SAME_DAY", "BRANCH_SAME_DAY_ONE", "BRANCH_LAPSE", "BRANCH_LAPSE_FLOORED", "BRANCH_SUCCESS",
     "ROW_ACCEPTED", "ROW_STABILITY", "ROW_DIFFICULTY", "ROW_INTERVAL",
+    "Reason", "Held", "Explanation", "Place", "Fault",
     "State", "Seen", "Claimed", "Step", "Stepped", "Branch", "Record", "StateGradient", "Prefixes", "Cards", "Gradient",
     "exp_f32", "exp_f64", "expm1_f32", "ln_f32", "ln_f64", "pow_f32", "pow_f64", "fma_f32", "fma_f64", "round_f32", "round_f64",
     "check_and_fill_parameters", "power_forgetting_curve", "next_interval", "init_difficulty", "mean_reversion", "next_difficulty",
     "stability_after_success", "stability_after_failure", "stability_short_term", "first_state", "next_state",
     "next_state_on", "check_row", "memory_state_from_sm2",
-    "training_step", "training_step_backward", "record", "batch_loss", "batch_loss_and_grad", "card_loss", "card_loss_and_grad",
-    "l2_penalty",
-    "batch_file",
+    "training_step", "training_step_backward", "explain_step", "record", "batch_loss", "batch_loss_and_grad", "card_loss", "card_loss_and_grad",
+    "batch_loss_fault", "batch_loss_and_grad_fault", "card_loss_fault", "card_loss_and_grad_fault", "l2_penalty",
+    "batch_file", "batch_file_fault",
 ]
 
 WEIGHTS = 21  # weights of a set, and slots of a gradient
@@ -186,6 +187,82 @@ class Branch(IntEnum):
     SUCCESS = BRANCH_SUCCESS
 
 
+class _Told(IntEnum):
+    """A number of the header that has words."""
+
+    def __new__(cls, number: int, words: str) -> _Told:
+        member = int.__new__(cls, number)
+        member._value_, member._words = number, words
+        return member
+
+    def __str__(self) -> str:
+        return self._words
+
+
+class Reason(_Told):
+    """Which rule gave the stability after a training step: one of these holds of a step, and no other. The numbers up to 5 are those
+    of the branch in a record; a success is told by its rating.
+
+    >>> Reason(5), str(Reason.LAPSE_FLOOR)
+    (<Reason.LAPSE_FLOOR: 5>, 'lapse, floor taken')
+    """
+
+    PADDING = 0, "padding"  # no review: the state was only clamped
+    FIRST = 1, "first review"  # a weight
+    SAME_DAY_RAW = 2, "same day, raw multiplier taken"  # it is 1 or more, or the rating is 1
+    SAME_DAY_ONE = 3, "same day, multiplier 1 taken"  # the raw one was below 1
+    LAPSE_RAW = 4, "lapse, raw value taken"  # the floor is not below it
+    LAPSE_FLOOR = 5, "lapse, floor taken"  # it is below the raw stability
+    SUCCESS = 6, "success"  # rated 3
+    SUCCESS_HARD = 7, "success, hard"  # rated 2: with weight 15
+    SUCCESS_EASY = 8, "success, easy"  # rated 4: with weight 16
+
+
+class Held(_Told):
+    """Whether a number of the state after a step was held at an end of its range: the number before the last clamp, or in padding the
+    given one, lay outside. One that is exactly at an end was not held."""
+
+    FREE = 0, "not held"
+    LOW = 1, "held at its low end"  # 0.0001, of a stability, or 1
+    HIGH = 2, "held at its high end"  # 36500, of a stability, or 10
+
+
+class Explanation(NamedTuple):
+    """Why a step gave what it gave."""
+
+    reason: Reason
+    stability_held: Held
+    difficulty_held: Held
+
+
+class Place(NamedTuple):
+    """Where the first bad cell of a loss call stands."""
+
+    column: int  # from 0
+    row: int  # from 0; of a prefix's scored review its length, cut to the rows; of an empty prefix 0
+
+
+class Fault(NamedTuple):
+    """Why a loss call is refused, and where its first bad cell is, if the number is 6, 7, 8 or 9: no cell before it, in the order of
+    the refusals, is bad. Of 8 it is the row's weight that is bad, or the label if the weight is good. The other refusals speak of no
+    cell, and have no place.
+
+    >>> print(Fault(6, Place(column=2, row=1)))
+    column 2, row 1: a rating is not 0, 1, 2, 3 or 4
+    """
+
+    number: int  # of the refusal
+    place: Optional[Place] = None
+
+    @property
+    def refusal(self) -> Refusal:
+        """What the call raises."""
+        return Refusal(self.number)
+
+    def __str__(self) -> str:
+        return ("column %d, row %d: " % self.place if self.place else "") + str(self.refusal)
+
+
 class Record(NamedTuple):
     """The record of a step by its names, in the order of the columns: `record` reads one."""
 
@@ -282,9 +359,11 @@ _KERNELS = {
 
 # All others: what is given, each as NAME:TYPE, and behind > what is answered. f is a single, d a double, I a whole number of 32
 # bits, Q one of 64, n one of the machine's size, ? a truth; [f] a slice of singles, which C takes as a pointer and a length, and &[d] one that
-# is written. An answer may be as many singles as its number says. Of the losses these are the functions that take the mode.
+# is written. An answer may be as many singles as its number says, or a struct that is returned. Of the losses these are the functions that
+# take the mode.
 _TABLES = "end:? w:[f] days:[f] ratings:[f] rows:I columns:I lengths:[I] "
 _STEP = "w:[f] stability:f difficulty:f day:f rating:f row:n "
+_TARGETS, _REVIEWS, _LENGTHS = "target_days:[f] labels:[f] weights:[f] ", "labels:[f] weights:[f] ", "gw_len:n records_len:n "
 _CALLS = {
     "check_and_fill_parameters": "parameters:[f] > 21",
     "power_forgetting_curve": "w:[f] t:f s:f > f",
@@ -302,17 +381,35 @@ _CALLS = {
     "memory_state_from_sm2": "w:[f] ease_factor:f interval:f sm2_retention:f > f f",
     "training_step": _STEP + "> f f 10",
     "training_step_backward": _STEP + "g_s:d g_d:d g_r:d gw:&[d] > d d",
-    "batch_loss_in": _TABLES + "target_days:[f] labels:[f] weights:[f] > d",
-    "batch_loss_and_grad_in": _TABLES + "target_days:[f] labels:[f] weights:[f] gw:&[d] records:&[f] > d",
-    "card_loss_in": _TABLES + "labels:[f] weights:[f] > d",
-    "card_loss_and_grad_in": _TABLES + "labels:[f] weights:[f] gw:&[d] records:&[f] step_grads:&[d] > d",
+    "explain_step": _STEP + "> reason",
+    "batch_loss_in": _TABLES + _TARGETS + "> d",
+    "batch_loss_and_grad_in": _TABLES + _TARGETS + "gw:&[d] records:&[f] > d",
+    "card_loss_in": _TABLES + _REVIEWS + "> d",
+    "card_loss_and_grad_in": _TABLES + _REVIEWS + "gw:&[d] records:&[f] step_grads:&[d] > d",
+    "batch_loss_fault": _TABLES + _TARGETS + "> fault",
+    "batch_loss_and_grad_fault": _TABLES + _TARGETS + _LENGTHS + "> fault",
+    "card_loss_fault": _TABLES + _REVIEWS + "> fault",
+    "card_loss_and_grad_fault": _TABLES + _REVIEWS + _LENGTHS + "step_grads_len:n > fault",
     "l2_penalty": "w:[f] init_w:[f] batch_size:Q total_size:Q l2_weight:d params_stddev:[f] slots:&[f] > d",
     "batch_file": "file:[B] gw:&[d] > d",
+    "batch_file_fault": "file:[B] > fault",
 }
 _TYPES = {"f": c_float, "d": c_double, "I": c_uint32, "Q": c_uint64, "B": c_uint8, "n": c_size_t, "?": c_bool}
 # The formats under which a buffer may tell that it has entries of a type.
 _FORMATS = {"f": "f", "d": "d", "I": "IL", "B": "Bbc"}
 _NATIVE = "@=<" if sys.byteorder == "little" else "@=>"
+
+
+
+def _struct(name: str, fields: str) -> type:
+    """A struct of the header: its first number is the refusal."""
+    return type(name, (ctypes.Structure,), {"_fields_": [(field, c_uint32) for field in fields.split()]})
+
+
+_STRUCTS = {
+    "reason": _struct("fsrs_reason", "refusal reason stability_held difficulty_held"),
+    "fault": _struct("fsrs_fault", "refusal column row"),
+}
 
 _functions: dict = {}
 
@@ -349,6 +446,9 @@ def _declared(library: ctypes.PyDLL, name: str):
     for _, kind in given:
         code = kind.strip("&[]")
         types += [ctypes.POINTER(_TYPES[code]), c_size_t] if "[" in kind else [_TYPES[code]]
+    if answers[0] in _STRUCTS:
+        function.restype, function.argtypes = _STRUCTS[answers[0]], types
+        return function
     function.restype, function.argtypes = c_uint32, types + [ctypes.POINTER(_TYPES.get(code, c_float)) for code in answers]
     return function
 
@@ -398,6 +498,10 @@ def _called(name: str, given: tuple) -> tuple[int, tuple]:
         else:
             words.append(_number(what, kind, x))
     _apart(slices)
+    if answers[0] in _STRUCTS:
+        told = _function(name)(*words)
+        number, *rest = (getattr(told, field) for field, _ in told._fields_)
+        return number, tuple(rest)
     places = [_TYPES[code]() if code in _TYPES else (c_float * int(code))() for code in answers]
     number = _function(name)(*words, *(place if hasattr(place, "_length_") else ctypes.byref(place) for place in places))
     if number == 0:
@@ -858,6 +962,29 @@ def training_step_backward(w: Singles, step: Step, after: StateGradient, by_retr
     return StateGradient(*_call("training_step_backward", w, *given, gw))
 
 
+def explain_step(w: Singles, step: Step) -> Explanation:
+    """The reason of the step that `training_step` makes of the same arguments, and which of its two numbers were held.
+
+    Refusals: those of that step.
+
+    >>> w = check_and_fill_parameters([])
+    >>> step = Step(State(stability=5, difficulty=9.9), day=4, rating=1, row=1)
+    >>> print(explain_step(w, step).reason)
+    lapse, raw value taken
+    >>> explain_step(w, step._replace(rating=2)).reason
+    <Reason.SUCCESS_HARD: 7>
+    >>> padding = explain_step(w, Step())  # held where the given state lies outside its range
+    >>> print(padding.reason, padding.stability_held, sep="; ")
+    padding; held at its low end
+    >>> explain_step(w, step._replace(rating=5))
+    Traceback (most recent call last):
+    fsrs6.Refusal: a rating is not 0, 1, 2, 3 or 4
+    """
+    (stability, difficulty), day, rating, row = step
+    reason, *held = _call("explain_step", w, stability, difficulty, day, rating, row)
+    return Explanation(Reason(reason), *map(Held, held))
+
+
 def record(records: Singles, row: int) -> Record:
     """The record of a row, read from the `records` that a loss with its gradient was lent; or of a step, row 0 of its ten numbers.
 
@@ -970,6 +1097,77 @@ def _tables(w: Singles, batch: Union[Prefixes, Cards], kind: type) -> tuple:
     if not isinstance(batch, kind):
         raise TypeError(f"{type(batch).__name__} where {kind.__name__} is wanted")
     return batch.end, w, batch.days, batch.ratings, batch.rows, batch.columns, batch.lengths
+
+
+# ---- where a loss call is at fault
+
+def _fault(name: str, *given) -> Optional[Fault]:
+    number, place = _called(name, given)
+    return Fault(number, Place(*place) if 6 <= number <= 9 else None) if number else None
+
+
+def batch_loss_fault(w: Singles, prefixes: Prefixes) -> Optional[Fault]:
+    """The fault of `batch_loss` on the same arguments; None where it is accepted.
+
+    >>> w = check_and_fill_parameters([])
+    >>> two = Prefixes(rows=1, columns=2, days=[0, 0], ratings=[3, 1], lengths=[1, 1], target_days=[4, 1e6], labels=[1, 1], weights=[1, 1])
+    >>> batch_loss_fault(w, two)  # the scored review of the second
+    Fault(number=7, place=Place(column=1, row=1))
+    >>> print(batch_loss_fault(w, two))
+    column 1, row 1: a day is outside -100000..100000
+    >>> batch_loss_fault(w, two._replace(weights=[1, 0])) is None  # of weight 0, and so unread
+    True
+    """
+    return _fault("batch_loss_fault", *_tables(w, prefixes, Prefixes), prefixes.target_days, prefixes.labels, prefixes.weights)
+
+
+def batch_loss_and_grad_fault(w: Singles, prefixes: Prefixes, gw_len: int, records_len: int) -> Optional[Fault]:
+    """The fault of `batch_loss_and_grad` on the same arguments; None where it is accepted. Of what that call is lent only the lengths
+    are given, so that nothing is written.
+
+    >>> w = check_and_fill_parameters([])
+    >>> batch_loss_and_grad_fault(w, Prefixes(), 21, 0) is None, batch_loss_and_grad_fault(w, Prefixes(), 20, 0)
+    (True, Fault(number=5, place=None))
+    """
+    scored = (prefixes.target_days, prefixes.labels, prefixes.weights)
+    return _fault("batch_loss_and_grad_fault", *_tables(w, prefixes, Prefixes), *scored, gw_len, records_len)
+
+
+def card_loss_fault(w: Singles, cards: Cards) -> Optional[Fault]:
+    """The fault of `card_loss` on the same arguments; None where it is accepted.
+
+    >>> w = check_and_fill_parameters([])
+    >>> one = Cards(rows=2, columns=1, days=[0, 4], ratings=[7, 3], lengths=[2], labels=[0, 1], weights=[0, -1])
+    >>> card_loss_fault(w, one)  # the first of two
+    Fault(number=6, place=Place(column=0, row=0))
+    >>> card_loss_fault(w, one._replace(ratings=[3, 3]))
+    Fault(number=8, place=Place(column=0, row=1))
+    """
+    return _fault("card_loss_fault", *_tables(w, cards, Cards), cards.labels, cards.weights)
+
+
+def card_loss_and_grad_fault(
+    w: Singles, cards: Cards, gw_len: int, records_len: int, step_grads_len: int
+) -> Optional[Fault]:
+    """The fault of `card_loss_and_grad` on the same arguments; None where it is accepted. Of what that call is lent only the lengths
+    are given, so that nothing is written.
+
+    >>> w = check_and_fill_parameters([])
+    >>> one = Cards(rows=1, columns=1, days=[0], ratings=[3], lengths=[1], labels=[0], weights=[0])
+    >>> card_loss_and_grad_fault(w, one, 21, 10, 1) is None, card_loss_and_grad_fault(w, one, 21, 10, 0)
+    (True, Fault(number=4, place=None))
+    """
+    lengths = (gw_len, records_len, step_grads_len)
+    return _fault("card_loss_and_grad_fault", *_tables(w, cards, Cards), cards.labels, cards.weights, *lengths)
+
+
+def batch_file_fault(file: Wholes) -> Optional[Fault]:
+    """The fault of the call that a batch file holds, with 21 slots: that of `batch_file`. It takes about 130 KB of the stack.
+
+    >>> batch_file_fault(b"no batch")
+    Fault(number=11, place=None)
+    """
+    return _fault("batch_file_fault", file)
 
 
 def l2_penalty(

@@ -29,6 +29,19 @@ fn branch(c: &StepCache) -> (u8, f32, f32) {
     }
 }
 
+// K7: the number of the reason, by the text's own flags, and for either output whether it was held, at which end: the value before
+// the last clamp, in padding the given one, lies outside. Before them 0, the refusal.
+fn reason(c: &StepCache) -> Part {
+    let held = |x: f32, low: f32, high: f32| if x < low { 1 } else if x > high { 2 } else { 0 };
+    let number = match (branch(c).0, c.rating) {
+        (6, r) if r == 2.0 => 7,
+        (6, r) if r == 4.0 => 8,
+        (number, _) => number,
+    };
+    let (s, d) = if c.padding { (c.state_s, c.state_d) } else { (c.pre_clamp_s, c.mean_pre_clamp_d) };
+    Part::of("reason", false, vec![0, number.into(), held(s, S_MIN, S_MAX), held(d, D_MIN, D_MAX)])
+}
+
 // The ten numbers of a record. The day is the one given, with its sign, and +0.0 where it goes unread
 // (docs/DIFFERENCES.md, 6).
 fn fields(c: &StepCache, given_day: f32) -> [f32; FIELDS] {
@@ -175,14 +188,17 @@ fn stepped<'a>(p: &RuntimeParams<'a>, c: &Step) -> (State, StepCache) {
     step_forward(p, State { s: c.s, d: c.d }, day, c.rating, c.row)
 }
 
+/// The reason of a step that is not refused.
+pub fn step_reason(c: &Step) -> Part {
+    reason(&stepped(&RuntimeParams::new(&c.w), c).1)
+}
+
 pub fn step_outcome(c: &Step, tally: &mut Tally) -> Outcome {
     let p = RuntimeParams::new(&c.w);
     let (next, cache) = stepped(&p, c);
     note_step(&cache, c.day, c.row, tally);
-    Outcome {
-        refusal: 0,
-        parts: vec![Part::singles("state", [next.s, next.d]), Part::singles("record", fields(&cache, c.day))],
-    }
+    let (state, record) = (Part::singles("state", [next.s, next.d]), Part::singles("record", fields(&cache, c.day)));
+    Outcome { refusal: 0, parts: vec![state, record, reason(&cache)] }
 }
 
 pub fn reverse_outcome(c: &Reverse, tally: &mut Tally) -> Outcome {
@@ -191,7 +207,8 @@ pub fn reverse_outcome(c: &Reverse, tally: &mut Tally) -> Outcome {
     note_step(&cache, c.step.day, c.step.row, tally);
     let mut gw = c.slots.clone();
     let (s, d) = step_backward(&p, &cache, c.g[0], c.g[1], c.g[2], &mut gw);
-    Outcome { refusal: 0, parts: vec![Part::doubles("gradients", [s, d]), Part::doubles("slots", gw)] }
+    let parts = vec![Part::doubles("gradients", [s, d]), Part::doubles("slots", gw), reason(&cache)];
+    Outcome { refusal: 0, parts }
 }
 
 // ---- which branches were met

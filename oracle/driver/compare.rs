@@ -1,11 +1,11 @@
 // A call on both sides: ours, and what document 01 and the Rust's text have of it.
 use crate::analytic;
-use crate::cases::{plain_bits, Case, File, Formula, Kernel, Loss, Outcome, Part, Row, FIELDS, ON_DAY, WEIGHTS};
+use crate::cases::{plain_bits, Case, File, Formula, Kernel, Loss, Outcome, Part, Row, Step, FIELDS, ON_DAY, WEIGHTS};
 use crate::face::{self, UNWRITTEN_DOUBLE, UNWRITTEN_SINGLE};
 use crate::files;
 use crate::model;
 use crate::penalty;
-use crate::rules;
+use crate::rules::{self, Fault};
 use crate::tally::Tally;
 use std::panic::{catch_unwind, set_hook, take_hook, AssertUnwindSafe};
 
@@ -20,7 +20,16 @@ fn as_lent(slots: &[f64]) -> Part {
     Part::doubles("slots", slots.iter().copied()).untouched()
 }
 
-fn refused_loss(c: &Loss, refusal: u32) -> Outcome {
+fn fault_part(fault: Fault) -> Part {
+    Part::of("fault", false, fault.map(u64::from).to_vec())
+}
+
+// A refused step has no reason, and nothing is held.
+fn no_reason(refusal: u32) -> Part {
+    Part::of("reason", false, vec![refusal.into(), 0, 0, 0])
+}
+
+fn refused_loss(c: &Loss, fault: Fault) -> Outcome {
     let mut parts = vec![unwritten("loss", true, 1)];
     if c.with_grad {
         parts.push(as_lent(&c.slots));
@@ -29,16 +38,18 @@ fn refused_loss(c: &Loss, refusal: u32) -> Outcome {
             parts.push(Part::of("step gradients", true, c.lent_step_grads()).untouched());
         }
     }
-    Outcome { refusal, parts }
+    parts.push(fault_part(fault));
+    Outcome { refusal: fault[0], parts }
 }
 
 // Which refusals a call would have had behind the one it gets.
-fn note_faults(faults: &[u32], tally: &mut Tally) {
-    let mut later: Vec<u32> = faults.iter().copied().filter(|x| *x != faults[0]).collect();
+fn note_faults(faults: &[Fault], tally: &mut Tally) {
+    let first = faults[0][0];
+    let mut later: Vec<u32> = faults.iter().map(|x| x[0]).filter(|x| *x != first).collect();
     later.sort();
     later.dedup();
     for x in later {
-        tally.branch(&format!("several refusals: {} before {x}", faults[0]));
+        tally.branch(&format!("several refusals: {first} before {x}"));
     }
 }
 
@@ -47,7 +58,9 @@ fn expected_loss(c: &Loss, tally: &mut Tally) -> Outcome {
     tally.weights(&c.w);
     if faults.is_empty() {
         analytic::note_branches(c, tally);
-        return analytic::loss_outcome(c);
+        let mut outcome = analytic::loss_outcome(c);
+        outcome.parts.push(fault_part([0; 3]));
+        return outcome;
     }
     note_faults(&faults, tally);
     refused_loss(c, faults[0])
@@ -55,13 +68,17 @@ fn expected_loss(c: &Loss, tally: &mut Tally) -> Outcome {
 
 fn expected_file(c: &File, tally: &mut Tally) -> Outcome {
     let call = files::read(c);
-    let refusal = call.as_ref().map_or(11, rules::loss_refusal);
+    let refusal = call.as_ref().map_or(11, |call| rules::loss_fault(call)[0]);
+    // the fault of a file is that of its call with 21 slots
+    let with_slots = |call: &Loss| Loss { slots: vec![0.0; WEIGHTS], ..call.clone() };
+    let fault = fault_part(call.as_ref().map_or([11, 0, 0], |call| rules::loss_fault(&with_slots(call))));
     files::note(c, tally);
     if refusal != 0 {
-        return Outcome { refusal, parts: vec![unwritten("loss", true, 1), as_lent(&c.slots)] };
+        return Outcome { refusal, parts: vec![unwritten("loss", true, 1), as_lent(&c.slots), fault] };
     }
     let mut outcome = analytic::loss_outcome(&call.unwrap());
     outcome.parts.truncate(2);
+    outcome.parts.push(fault);
     outcome
 }
 
@@ -77,6 +94,13 @@ fn expected_formula(c: &Formula, tally: &mut Tally) -> Outcome {
     match rules::formula_refusal(c) {
         0 => model::formula_outcome(c, tally).unwrap_or_else(|| refused(14)),
         refusal => refused(refusal),
+    }
+}
+
+fn expected_reason(c: &Step) -> Part {
+    match rules::step_refusal(c) {
+        0 => analytic::step_reason(c),
+        refusal => no_reason(refusal),
     }
 }
 
@@ -139,13 +163,17 @@ pub fn expected(case: &Case, tally: &mut Tally) -> Outcome {
         Case::Step(c) => match rules::step_refusal(c) {
             0 => analytic::step_outcome(c, tally),
             refusal => {
-                let parts = vec![unwritten("state", false, 2), unwritten("record", false, FIELDS)];
+                let parts = vec![unwritten("state", false, 2), unwritten("record", false, FIELDS), no_reason(refusal)];
                 Outcome { refusal, parts }
             }
         },
         Case::Reverse(c) => match rules::reverse_refusal(c) {
             0 => analytic::reverse_outcome(c, tally),
-            refusal => Outcome { refusal, parts: vec![unwritten("gradients", true, 2), as_lent(&c.slots)] },
+            refusal => {
+                // the reason is that of the step, which is lent no slots
+                let parts = vec![unwritten("gradients", true, 2), as_lent(&c.slots), expected_reason(&c.step)];
+                Outcome { refusal, parts }
+            }
         },
         Case::Formula(c) => expected_formula(c, tally),
         Case::Row(c) => expected_row(c, tally),
@@ -190,6 +218,15 @@ pub fn difference(wanted: &Outcome, got: &Outcome) -> Option<String> {
     wanted.parts.iter().zip(&got.parts).find_map(|(a, b)| part_difference(a, b))
 }
 
+// Where the first fault of a call stands.
+fn note_place(wanted: &Outcome, tally: &mut Tally) {
+    let Some(part) = wanted.parts.iter().find(|p| p.name == "fault") else { return };
+    if let [refusal @ 6..=9, column, row] = part.bits[..] {
+        let [column, row] = [column, row].map(|n| if n == 0 { "first" } else { "later" });
+        tally.branch(&format!("first fault: {refusal}, {column} column, {row} row"));
+    }
+}
+
 // A panic of either side is a difference, told with its call and not here.
 fn caught<T>(f: impl FnOnce() -> T) -> Result<T, String> {
     let tell = take_hook();
@@ -215,6 +252,7 @@ pub fn run(case: &Case, tally: &mut Tally) -> (Option<u32>, Option<String>) {
         Ok(x) => x,
         Err(text) => return (None, Some(format!("the Rust's side: {text}"))),
     };
+    note_place(&wanted, tally);
     match caught(|| ours(case)) {
         Ok(got) => (Some(wanted.refusal), difference(&wanted, &got)),
         Err(text) => (Some(wanted.refusal), Some(format!("our side: {text}"))),
@@ -223,7 +261,7 @@ pub fn run(case: &Case, tally: &mut Tally) -> (Option<u32>, Option<String>) {
 
 /// A digest as in tools/vectors/losses.py: of the slots, the records and the step gradients after the call.
 pub fn digest(outcome: &Outcome) -> u64 {
-    let lent = outcome.parts.iter().filter(|p| p.name != "loss");
+    let lent = outcome.parts.iter().filter(|p| p.name != "loss" && p.name != "fault");
     lent.flat_map(|p| p.bits.iter().map(|&b| plain_bits(p.is_double, b))).fold(0xcbf29ce484222325, |h, v| {
         let m = (h ^ v).wrapping_mul(0x100000001b3);
         m ^ (m >> 32)

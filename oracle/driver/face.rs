@@ -44,8 +44,25 @@ extern "C" {
     fn fsrs_card_loss_in(end: bool, w: *const f32, w_len: usize, t_hist: *const f32, t_hist_len: usize, r_hist: *const f32, r_hist_len: usize, seq_len: u32, batch: u32, seq_lens: *const u32, seq_lens_len: usize, labels: *const f32, labels_len: usize, weights: *const f32, weights_len: usize, loss: *mut f64) -> u32;
     fn fsrs_card_loss_and_grad_in(end: bool, w: *const f32, w_len: usize, t_hist: *const f32, t_hist_len: usize, r_hist: *const f32, r_hist_len: usize, seq_len: u32, batch: u32, seq_lens: *const u32, seq_lens_len: usize, labels: *const f32, labels_len: usize, weights: *const f32, weights_len: usize, gw: *mut f64, gw_len: usize, records: *mut f32, records_len: usize, step_grads: *mut f64, step_grads_len: usize, loss: *mut f64) -> u32;
 
+    fn fsrs_explain_step(w: *const f32, w_len: usize, stability: f32, difficulty: f32, day: f32, rating: f32, row: usize) -> Told<4>;
+    fn fsrs_batch_loss_fault(end: bool, w: *const f32, w_len: usize, t_hist: *const f32, t_hist_len: usize, r_hist: *const f32, r_hist_len: usize, seq_len: u32, batch: u32, seq_lens: *const u32, seq_lens_len: usize, delta_ts: *const f32, delta_ts_len: usize, labels: *const f32, labels_len: usize, weights: *const f32, weights_len: usize) -> Told<3>;
+    fn fsrs_batch_loss_and_grad_fault(end: bool, w: *const f32, w_len: usize, t_hist: *const f32, t_hist_len: usize, r_hist: *const f32, r_hist_len: usize, seq_len: u32, batch: u32, seq_lens: *const u32, seq_lens_len: usize, delta_ts: *const f32, delta_ts_len: usize, labels: *const f32, labels_len: usize, weights: *const f32, weights_len: usize, gw_len: usize, records_len: usize) -> Told<3>;
+    fn fsrs_card_loss_fault(end: bool, w: *const f32, w_len: usize, t_hist: *const f32, t_hist_len: usize, r_hist: *const f32, r_hist_len: usize, seq_len: u32, batch: u32, seq_lens: *const u32, seq_lens_len: usize, labels: *const f32, labels_len: usize, weights: *const f32, weights_len: usize) -> Told<3>;
+    fn fsrs_card_loss_and_grad_fault(end: bool, w: *const f32, w_len: usize, t_hist: *const f32, t_hist_len: usize, r_hist: *const f32, r_hist_len: usize, seq_len: u32, batch: u32, seq_lens: *const u32, seq_lens_len: usize, labels: *const f32, labels_len: usize, weights: *const f32, weights_len: usize, gw_len: usize, records_len: usize, step_grads_len: usize) -> Told<3>;
+
     fn fsrs_l2_penalty(w: *const f32, w_len: usize, init_w: *const f32, init_w_len: usize, batch_size: u64, total_size: u64, l2_weight: f64, params_stddev: *const f32, params_stddev_len: usize, slots: *mut f32, slots_len: usize, penalty: *mut f64) -> u32;
     fn fsrs_batch_file(file: *const u8, file_len: usize, gw: *mut f64, gw_len: usize, loss: *mut f64) -> u32;
+    fn fsrs_batch_file_fault(file: *const u8, file_len: usize) -> Told<3>;
+}
+
+/// K7's structs, fsrs_reason and fsrs_fault, by their numbers, of which the first is the refusal.
+#[repr(C)]
+struct Told<const N: usize>([u32; N]);
+
+impl<const N: usize> Told<N> {
+    fn part(self, name: &'static str) -> Part {
+        Part::of(name, false, self.0.map(u64::from).to_vec())
+    }
 }
 
 // What stands in a place for an answer before the call: no answer has these patterns.
@@ -160,12 +177,25 @@ fn is_same(a: &Outcome, b: &Outcome) -> bool {
     a.refusal == b.refusal && a.parts.iter().zip(&b.parts).all(is_same_part)
 }
 
+// K7: of what is lent only the lengths are given.
+fn loss_fault(c: &Loss) -> Part {
+    let (n, m, k) = (c.slots.len(), c.records.0, c.step_grads.0);
+    let fault = match (c.is_card, c.with_grad) {
+        (true, true) => slices!(fsrs_card_loss_and_grad_fault(c.is_end), c; labels weights; n, m, k),
+        (true, false) => slices!(fsrs_card_loss_fault(c.is_end), c; labels weights;),
+        (false, true) => slices!(fsrs_batch_loss_and_grad_fault(c.is_end), c; targets labels weights; n, m),
+        (false, false) => slices!(fsrs_batch_loss_fault(c.is_end), c; targets labels weights;),
+    };
+    fault.part("fault")
+}
+
 /// At the start both functions are called.
 pub fn loss(c: &Loss) -> Outcome {
     let before = inputs(c);
     let call = if c.with_grad { loss_and_grad } else { loss_alone };
-    let outcome = call(c, c.is_end);
+    let mut outcome = call(c, c.is_end);
     assert!(c.is_end || is_same(&outcome, &call(c, true)), "another answer of the function that takes the mode");
+    outcome.parts.push(loss_fault(c));
     assert_eq!(inputs(c), before, "a write to an input slice");
     outcome
 }
@@ -175,11 +205,16 @@ pub fn file(c: &File) -> Outcome {
     let bytes = c.bytes.clone();
     let refusal =
         unsafe { fsrs_batch_file(bytes.as_ptr(), bytes.len(), gw.place(0), c.slots.len(), loss.place(0)) };
+    let fault = unsafe { fsrs_batch_file_fault(bytes.as_ptr(), bytes.len()) }.part("fault");
     assert!(bytes == c.bytes, "a write to the file");
-    Outcome { refusal, parts: vec![double_part("loss", loss), double_part("slots", gw)] }
+    Outcome { refusal, parts: vec![double_part("loss", loss), double_part("slots", gw), fault] }
 }
 
 // ---- single steps, formulas, filling, kernels
+
+fn reason(c: &Step) -> Part {
+    unsafe { fsrs_explain_step(c.w.as_ptr(), c.w.len(), c.s, c.d, c.day, c.rating, c.row) }.part("reason")
+}
 
 pub fn step(c: &Step) -> Outcome {
     let (mut state, mut record) = (singles(2), singles(FIELDS));
@@ -188,7 +223,7 @@ pub fn step(c: &Step) -> Outcome {
             c.w.as_ptr(), c.w.len(), c.s, c.d, c.day, c.rating, c.row, state.place(0), state.place(1), record.place(0),
         )
     };
-    Outcome { refusal, parts: vec![single_part("state", state), single_part("record", record)] }
+    Outcome { refusal, parts: vec![single_part("state", state), single_part("record", record), reason(c)] }
 }
 
 pub fn reverse(c: &Reverse) -> Outcome {
@@ -200,7 +235,8 @@ pub fn reverse(c: &Reverse) -> Outcome {
             gradients.place(0), gradients.place(1),
         )
     };
-    Outcome { refusal, parts: vec![double_part("gradients", gradients), double_part("slots", gw)] }
+    let parts = vec![double_part("gradients", gradients), double_part("slots", gw), reason(&c.step)];
+    Outcome { refusal, parts }
 }
 
 pub fn penalty(c: &Penalty) -> Outcome {

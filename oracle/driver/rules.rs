@@ -1,5 +1,6 @@
-// Document 01's checks and their order, read from it alone: the number of the refusal, 0 where a call is accepted. Of K1's 14,
-// which the text decides, only what is said of it besides; K2's 15. What is read in K5's mode stands apart.
+// Document 01's checks and their order, read from it alone: the number of the refusal, 0 where a call is accepted, and of a loss
+// call K7's place of its first fault. Of K1's 14, which the text decides, only what is said of it besides; K2's 15. What is read
+// in K5's mode stands apart.
 use crate::cases::{Formula, Loss, Reverse, Row, Step, FIELDS, FROM_SM2, ON_DAY, WEIGHTS};
 
 pub const BOX: [(f32, f32); WEIGHTS] = [
@@ -110,26 +111,25 @@ fn is_review(weight: f32, label: f32) -> bool {
     is_in(weight, (0.0, WEIGHT_MAX)) && (weight == 0.0 || is_in(label, UNIT))
 }
 
-// The first refusal among the rows.
-fn rows_refusal(n: usize, f: impl Fn(usize) -> u32) -> u32 {
-    (0..n).map(f).find(|&x| x != 0).unwrap_or(0)
+/// A refusal, and the column and row of its cell, 0 and 0 where it has none. K7: 'the row is 0 for 9 and the cut length for a
+/// target'.
+pub type Fault = [u32; 3];
+
+// The first refusal among the rows, and its row; else the target's, behind the last.
+fn first_in(n: usize, row: impl Fn(usize) -> u32, target: impl Fn() -> u32) -> (u32, usize) {
+    let found = (0..n).map(|i| (row(i), i)).find(|x| x.0 != 0);
+    found.unwrap_or_else(|| (target(), n))
 }
 
-fn column_refusal(c: &Loss, column: usize) -> u32 {
+fn column_fault(c: &Loss, column: usize) -> Fault {
     let n = c.cut(column);
-    if n == 0 && !c.is_card {
-        return 9;
-    }
-    if c.is_end {
-        return end_column_refusal(c, n, column);
-    }
-    if c.is_card {
-        return rows_refusal(n, |row| card_row_refusal(c, n, row, column));
-    }
-    match rows_refusal(n, |row| prefix_row_refusal(c, row, column)) {
-        0 => target_refusal(c, column),
-        x => x,
-    }
+    let (refusal, row) = match (c.is_end, c.is_card) {
+        (_, false) if n == 0 => (9, 0),
+        (true, _) => end_column_fault(c, n, column),
+        (false, true) => first_in(n, |row| card_row_refusal(c, n, row, column), || 0),
+        (false, false) => first_in(n, |row| prefix_row_refusal(c, row, column), || target_refusal(c, column)),
+    };
+    [refusal, column as u32, row as u32]
 }
 
 // K5: 'the first row with a nonzero rating is the first review, its day, weight and label go unread, and padding rows are
@@ -150,36 +150,34 @@ fn end_row_refusal(c: &Loss, is_last: bool, first: usize, row: usize, column: us
 }
 
 // 'An all-padding prefix scores nothing, its target unread.'
-fn end_column_refusal(c: &Loss, n: usize, column: usize) -> u32 {
+fn end_column_fault(c: &Loss, n: usize, column: usize) -> (u32, usize) {
     let first = c.first(column);
-    match rows_refusal(n, |row| end_row_refusal(c, row + 1 == n, first, row, column)) {
-        0 if !c.is_card && first < n => target_refusal(c, column),
-        x => x,
-    }
+    let target = || if !c.is_card && first < n { target_refusal(c, column) } else { 0 };
+    first_in(n, |row| end_row_refusal(c, row + 1 == n, first, row, column), target)
 }
 
 /// All that is wrong, in order: 1, 2, 5, 3, 4, then column by column. The loss alone is lent nothing that could give 5 or
 /// 4, and where sizes are wrong nothing behind them can be asked.
-pub fn loss_faults(c: &Loss) -> Vec<u32> {
-    let mut faults = vec![weights_refusal(&c.w)];
+pub fn loss_faults(c: &Loss) -> Vec<Fault> {
+    let mut faults = vec![[weights_refusal(&c.w), 0, 0]];
     if c.with_grad && c.slots.len() != WEIGHTS {
-        faults.push(5);
+        faults.push([5, 0, 0]);
     }
     if has_sizes(c) {
         if c.with_grad && !has_room(c) {
-            faults.push(4);
+            faults.push([4, 0, 0]);
         }
-        faults.extend((0..c.columns as usize).map(|i| column_refusal(c, i)));
+        faults.extend((0..c.columns as usize).map(|i| column_fault(c, i)));
     } else {
-        faults.push(3);
+        faults.push([3, 0, 0]);
     }
-    faults.retain(|&x| x != 0);
+    faults.retain(|x| x[0] != 0);
     faults
 }
 
-/// The first of them.
-pub fn loss_refusal(c: &Loss) -> u32 {
-    loss_faults(c).first().copied().unwrap_or(0)
+/// The first of them; all 0 where there is none.
+pub fn loss_fault(c: &Loss) -> Fault {
+    loss_faults(c).first().copied().unwrap_or([0; 3])
 }
 
 // ---- single steps, formulas, filling

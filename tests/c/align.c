@@ -1,7 +1,7 @@
 /* The losses of histories that stand at the end of their columns (fsrs_batch_loss_in and its like), on pseudo-random decks,
  * beside the functions that know no such mode: at the start both leave the same bits; at the end a deck has the loss and the
  * gradient of the deck that is moved to the start; what is not read does not count, and what is read is checked; a refused
- * call writes nothing. */
+ * call writes nothing, and its first bad cell is named, in both modes. */
 #include "../../include/fsrs6.h"
 #include "check.h"
 
@@ -57,6 +57,15 @@ static struct left alone(const struct deck *x, enum mode mode) {
                                : fsrs_batch_loss_in(mode == END, TABLES, TARGETS, &y.loss);
     }
     return y;
+}
+
+static fsrs_fault fault_of(const struct deck *x, bool end) {
+    return x->is_card ? fsrs_card_loss_fault(end, TABLES, REVIEWS) : fsrs_batch_loss_fault(end, TABLES, TARGETS);
+}
+
+static fsrs_fault grad_fault_of(const struct deck *x, bool end) {
+    return x->is_card ? fsrs_card_loss_and_grad_fault(end, TABLES, REVIEWS, FSRS_WEIGHTS, RECORDS, ROWS)
+                      : fsrs_batch_loss_and_grad_fault(end, TABLES, TARGETS, FSRS_WEIGHTS, RECORDS);
 }
 
 static bool is_same(const void *x, const void *y, size_t size) {
@@ -271,6 +280,100 @@ static void every_read(const struct deck *x) {
     }
 }
 
+/* ---- the first bad cell */
+
+static bool is_read_at_start(const struct deck *x, enum table table, uint32_t row, uint32_t column) {
+    uint32_t n = x->lengths[column];
+    int i = cell(x, row, column);
+    bool is_last = x->is_card && row + 1 == n, is_scored = x->is_card && row > 0 && row < n;
+    switch (table) {
+    case RATING:
+        return row < n && !is_last;
+    case DAY:
+        return row > 0 && row < n && (is_last ? x->weights[i] != 0 : x->ratings[i] != 0);
+    case WEIGHT:
+        return is_scored;
+    case LABEL:
+        return is_scored && x->weights[i] != 0;
+    default:
+        return !x->is_card && (table == TARGET_WEIGHT || x->target_weights[column] != 0);
+    }
+}
+
+static bool is_bad(enum table table, float x) {
+    switch (refusals[table]) {
+    case FSRS_RATING:
+        return !(x == 0 || x == 1 || x == 2 || x == 3 || x == 4);
+    case FSRS_DAY:
+        return !(x >= -100000 && x <= 100000);
+    default:
+        return !(x >= 0 && x <= (table == LABEL || table == TARGET_LABEL ? 1 : 1000000));
+    }
+}
+
+/* Columns, and of each its rows, cell by cell, and then its target: the first that is read and bad. */
+static fsrs_fault first_fault(struct deck *x, bool end) {
+    const fsrs_fault accepted = {0, 0, 0};
+    for (uint32_t column = 0; column < x->columns; column++) {
+        uint32_t n = x->lengths[column];
+        if (!x->is_card && n == 0) {
+            return (fsrs_fault){FSRS_EMPTY_PREFIX, column, 0};
+        }
+        for (uint32_t row = 0; row <= n; row++) {
+            enum table from = row < n ? RATING : TARGET_WEIGHT, to = row < n ? TARGET_WEIGHT : TABLES_OF_A_DECK;
+            for (enum table table = from; table < to; table++) {
+                bool reads = end ? is_read(x, table, row, column) : is_read_at_start(x, table, row, column);
+                if (reads && is_bad(table, *at(x, table, row, column))) {
+                    return (fsrs_fault){refusals[table], column, row};
+                }
+            }
+        }
+    }
+    return accepted;
+}
+
+static void expect_fault(const char *name, fsrs_fault is, fsrs_fault want) {
+    expect(is.refusal == want.refusal && is.column == want.column && is.row == want.row,
+           "%s: %d at column %d, row %d, not %d at %d, %d", name, (int)is.refusal, (int)is.column, (int)is.row,
+           (int)want.refusal, (int)want.column, (int)want.row);
+}
+
+static uint32_t met[2][FSRS_EMPTY_PREFIX + 1];
+
+/* Some bad cells, and an empty column now and then; a length above the rows is cut to them. */
+static void faults(struct deck x) {
+    for (uint32_t i = below(4); i > 0; i--) {
+        enum table table = (enum table)below(TABLES_OF_A_DECK);
+        *at(&x, table, below(ROWS), below(x.columns)) = bad(table);
+    }
+    if (below(8) == 0) {
+        x.lengths[below(x.columns)] = 0;
+    }
+    struct deck over = x;
+    for (uint32_t column = 0; column < x.columns; column++) {
+        over.lengths[column] = x.lengths[column] == ROWS && below(2) ? ROWS + 1 + below(5) : x.lengths[column];
+    }
+    for (int end = 0; end < 2; end++) {
+        fsrs_fault want = first_fault(&x, end);
+        expect_fault("a fault", fault_of(&over, end), want);
+        expect_fault("a fault, with the gradient", grad_fault_of(&over, end), want);
+        expect(called(&over, end ? END : START).refusal == want.refusal, "the loss is refused by another number");
+        met[end][want.refusal]++;
+    }
+}
+
+static void many_faults(void) {
+    for (int i = 0; i < 5 * ROUNDS; i++) {
+        faults(some_deck());
+    }
+    for (int end = 0; end < 2; end++) {
+        for (uint32_t number = FSRS_RATING; number <= FSRS_EMPTY_PREFIX; number++) {
+            expect(met[end][number] > 50 && met[end][0] > 50, "refusal %d was met %d times", (int)number,
+                   (int)met[end][number]);
+        }
+    }
+}
+
 /* ---- by hand */
 
 /* One card of three rows: a first review behind padding, and a last one with this rating. */
@@ -328,5 +431,6 @@ int main(void) {
             every_read(&x);
         }
     }
+    many_faults();
     return finish();
 }

@@ -32,6 +32,7 @@ struct call {
     float records[FSRS_RECORD * ROWS];
     size_t records_len;
     double step_grads[ROWS], loss, grad_s, grad_d;
+    size_t step_grads_len;
     float slots[FSRS_WEIGHTS + 1];
     size_t slots_len;
     double penalty;
@@ -76,6 +77,7 @@ static struct call good(void) {
         .verdict = 13,
         .gw_len = FSRS_WEIGHTS,
         .records_len = FSRS_RECORD * ROWS,
+        .step_grads_len = ROWS,
         .loss = 9,
         .grad_s = 10,
         .grad_d = 11,
@@ -166,6 +168,14 @@ static uint32_t step_backward(struct call *x) {
                                        x->g_d, x->g_r, x->gw, x->gw_len, &x->grad_s, &x->grad_d);
 }
 
+static fsrs_reason reason_of(const struct call *x) {
+    return fsrs_explain_step(x->w, x->w_len, x->stability, x->difficulty, x->day, x->rating, x->row);
+}
+
+static uint32_t explain(struct call *x) {
+    return reason_of(x).refusal;
+}
+
 static uint32_t batch(struct call *x) {
     return fsrs_batch_loss(x->w, x->w_len, x->days, x->cells, x->ratings, x->cells, x->rows, x->columns, x->lengths,
                            COLUMNS, x->target_days, COLUMNS, x->labels, COLUMNS, x->weights, COLUMNS, &x->loss);
@@ -185,7 +195,7 @@ static uint32_t card(struct call *x) {
 static uint32_t card_grad(struct call *x) {
     return fsrs_card_loss_and_grad(x->w, x->w_len, x->days, x->cells, x->ratings, x->cells, x->rows, x->columns,
                                    x->lengths, COLUMNS, x->labels, x->cells, x->weights, x->cells, x->gw, x->gw_len,
-                                   x->records, x->records_len, x->step_grads, ROWS, &x->loss);
+                                   x->records, x->records_len, x->step_grads, x->step_grads_len, &x->loss);
 }
 
 static uint32_t batch_in(struct call *x, bool end) {
@@ -208,8 +218,41 @@ static uint32_t card_in(struct call *x, bool end) {
 static uint32_t card_grad_in(struct call *x, bool end) {
     return fsrs_card_loss_and_grad_in(end, x->w, x->w_len, x->days, x->cells, x->ratings, x->cells, x->rows,
                                       x->columns, x->lengths, COLUMNS, x->labels, x->cells, x->weights, x->cells, x->gw,
-                                      x->gw_len, x->records, x->records_len, x->step_grads, ROWS, &x->loss);
+                                      x->gw_len, x->records, x->records_len, x->step_grads, x->step_grads_len, &x->loss);
 }
+
+/* Their faults: of what is lent the lengths are given. */
+static fsrs_fault batch_place(const struct call *x, bool end) {
+    return fsrs_batch_loss_fault(end, x->w, x->w_len, x->days, x->cells, x->ratings, x->cells, x->rows, x->columns,
+                                 x->lengths, COLUMNS, x->target_days, COLUMNS, x->labels, COLUMNS, x->weights, COLUMNS);
+}
+
+static fsrs_fault batch_grad_place(const struct call *x, bool end) {
+    return fsrs_batch_loss_and_grad_fault(end, x->w, x->w_len, x->days, x->cells, x->ratings, x->cells, x->rows,
+                                          x->columns, x->lengths, COLUMNS, x->target_days, COLUMNS, x->labels, COLUMNS,
+                                          x->weights, COLUMNS, x->gw_len, x->records_len);
+}
+
+static fsrs_fault card_place(const struct call *x, bool end) {
+    return fsrs_card_loss_fault(end, x->w, x->w_len, x->days, x->cells, x->ratings, x->cells, x->rows, x->columns,
+                                x->lengths, COLUMNS, x->labels, x->cells, x->weights, x->cells);
+}
+
+static fsrs_fault card_grad_place(const struct call *x, bool end) {
+    return fsrs_card_loss_and_grad_fault(end, x->w, x->w_len, x->days, x->cells, x->ratings, x->cells, x->rows,
+                                         x->columns, x->lengths, COLUMNS, x->labels, x->cells, x->weights, x->cells,
+                                         x->gw_len, x->records_len, x->step_grads_len);
+}
+
+#define FAULT(NAME) \
+    static uint32_t NAME##_fault_in(struct call *x, bool end) { \
+        return NAME##_place(x, end).refusal; \
+    }
+
+FAULT(batch)
+FAULT(batch_grad)
+FAULT(card)
+FAULT(card_grad)
 
 /* Each of them in both modes. */
 #define MODES(NAME) \
@@ -224,6 +267,10 @@ MODES(batch)
 MODES(batch_grad)
 MODES(card)
 MODES(card_grad)
+MODES(batch_fault)
+MODES(batch_grad_fault)
+MODES(card_fault)
+MODES(card_grad_fault)
 
 static uint32_t penalty(struct call *x) {
     return fsrs_l2_penalty(x->w, x->w_len, x->init_w, x->init_w_len, x->batch_size, x->total_size, x->l2_weight, x->spreads,
@@ -232,6 +279,10 @@ static uint32_t penalty(struct call *x) {
 
 static uint32_t file(struct call *x) {
     return fsrs_batch_file(x->file, x->file_len, x->gw, x->gw_len, &x->loss);
+}
+
+static uint32_t file_fault(struct call *x) {
+    return fsrs_batch_file_fault(x->file, x->file_len).refusal;
 }
 
 #define BIT(N) (1u << (N))
@@ -273,6 +324,7 @@ static const struct function functions[] = {
     {"memory_state_from_sm2", sm2, IMPORT},
     {"training_step", step, STEP},
     {"training_step_backward", step_backward, STEP | SLOTS},
+    {"explain_step", explain, STEP},
     {"batch_loss", batch, PREFIX},
     {"batch_loss_and_grad", batch_grad, PREFIX | LENT},
     {"card_loss", card, CARD},
@@ -285,8 +337,17 @@ static const struct function functions[] = {
     {"card_loss_in, end", card_at_end, CARD},
     {"card_loss_and_grad_in, start", card_grad_at_start, CARD | LENT},
     {"card_loss_and_grad_in, end", card_grad_at_end, CARD | LENT},
+    {"batch_loss_fault, start", batch_fault_at_start, PREFIX},
+    {"batch_loss_fault, end", batch_fault_at_end, PREFIX},
+    {"batch_loss_and_grad_fault, start", batch_grad_fault_at_start, PREFIX | LENT},
+    {"batch_loss_and_grad_fault, end", batch_grad_fault_at_end, PREFIX | LENT},
+    {"card_loss_fault, start", card_fault_at_start, CARD},
+    {"card_loss_fault, end", card_fault_at_end, CARD},
+    {"card_loss_and_grad_fault, start", card_grad_fault_at_start, CARD | LENT},
+    {"card_loss_and_grad_fault, end", card_grad_fault_at_end, CARD | LENT},
     {"l2_penalty", penalty, FORMULA | SLOTS},
     {"batch_file", file, CARD_FILE},
+    {"batch_file_fault", file_fault, CARD_FILE & ~SLOTS},
 };
 
 /* ---- batch files */
@@ -1134,6 +1195,430 @@ static void files_refused(void) {
     expect_nothing("a file of 512 rows and no columns", file, x);
 }
 
+/* ---- why a card moved */
+
+static void expect_reason(const char *name, const struct call *x, uint32_t reason, uint32_t of_s, uint32_t of_d) {
+    fsrs_reason is = reason_of(x);
+    expect(is.refusal == FSRS_ACCEPTED, "%s: refused by %" PRIu32, name, is.refusal);
+    expect(is.reason == reason, "%s: reason %" PRIu32 " and not %" PRIu32, name, is.reason, reason);
+    expect(is.stability_held == of_s && is.difficulty_held == of_d, "%s: held %" PRIu32 ", %" PRIu32, name,
+           is.stability_held, is.difficulty_held);
+}
+
+static uint32_t held_at(float x, float low, float high) {
+    return x < low ? FSRS_HELD_LOW : high < x ? FSRS_HELD_HIGH : FSRS_HELD_FREE;
+}
+
+static float at_end(uint32_t held, float x, float low, float high) {
+    return held == FSRS_HELD_LOW ? low : held == FSRS_HELD_HIGH ? high : x;
+}
+
+/* A step's reason beside its own record; and what was held is at that end. */
+static void expect_as_recorded(struct call *x) {
+    fsrs_reason is = reason_of(x);
+    uint32_t refusal = step(x), branch = (uint32_t)x->record[FSRS_RECORD_BRANCH], reason = branch;
+    if (branch == FSRS_BRANCH_SUCCESS && x->rating != 3) {
+        reason = x->rating == 2 ? FSRS_REASON_SUCCESS_HARD : FSRS_REASON_SUCCESS_EASY;
+    }
+    bool is_padding = branch == FSRS_BRANCH_PADDING;
+    float s = is_padding ? x->stability : x->record[FSRS_RECORD_PRE_STABILITY];
+    float d = is_padding ? x->difficulty : x->record[FSRS_RECORD_PRE_DIFFICULTY];
+    expect(refusal == FSRS_ACCEPTED && is.refusal == FSRS_ACCEPTED && is.reason == reason &&
+               is.stability_held == held_at(s, 0.0001f, 36500) && is.difficulty_held == held_at(d, 1, 10) &&
+               x->answer == at_end(is.stability_held, s, 0.0001f, 36500) &&
+               x->answer_difficulty == at_end(is.difficulty_held, d, 1, 10),
+           "branch %" PRIu32 ", before the clamp (%g, %g): reason %" PRIu32 ", held %" PRIu32 ", %" PRIu32, branch, s, d,
+           is.reason, is.stability_held, is.difficulty_held);
+}
+
+/* Every rating, on many days, from many states, at the first row and at another, with weights that lead into every branch. */
+static void reasons_recorded(void) {
+    const float days[] = {0, -0.0f, 4, -1, 100000}, ratings[] = {0, -0.0f, 1, 2, 3, 4};
+    const float stabilities[] = {0, 0.0001f, 5, 36500, -1, 1e9f}, difficulties[] = {0, 6, 9.9f, 11};
+    const struct {
+        int at;
+        float x;
+    } moved[] = {{20, 0.5f}, {19, 0}, {17, 0}, {17, 3}, {13, 0}, {11, 10}, {6, 6}, {4, 20}};
+    uint32_t met = 0;
+    for (size_t i = 0; i < sizeof moved / sizeof *moved; i++) {
+        struct call x = good();
+        x.w[moved[i].at] = moved[i].x;
+        for (int n = 0; n < 5 * 6 * 6 * 4 * 2; n++) {
+            x.day = days[n % 5];
+            x.rating = ratings[n / 5 % 6];
+            x.stability = stabilities[n / 30 % 6];
+            x.difficulty = difficulties[n / 180 % 4];
+            x.row = n < 720 ? 0 : 3;
+            expect_as_recorded(&x);
+            met |= BIT(reason_of(&x).reason);
+        }
+    }
+    expect(met == BIT(FSRS_REASON_SUCCESS_EASY + 1) - 1, "not every reason was met: %" PRIx32, met);
+}
+
+enum { FREE = FSRS_HELD_FREE, LOW = FSRS_HELD_LOW, HIGH = FSRS_HELD_HIGH };
+
+/* The given state is what is held, and an end itself is not outside. */
+static void padding_reasons(void) {
+    const struct {
+        float s, d;
+        uint32_t of_s, of_d;
+    } states[] = {
+        {5, 6, FREE, FREE},
+        {0, 0, LOW, LOW},
+        {0.0001f, 1, FREE, FREE},
+        {36500, 10, FREE, FREE},
+        {nextafterf(0.0001f, 0), nextafterf(1, 0), LOW, LOW},
+        {nextafterf(36500, INFINITY), nextafterf(10, INFINITY), HIGH, HIGH},
+        {nextafterf(0.0001f, 1), nextafterf(10, 0), FREE, FREE},
+        {-3e38f, 3e38f, LOW, HIGH},
+        {3e38f, -0.0f, HIGH, LOW},
+    };
+    for (size_t i = 0; i < sizeof states / sizeof *states; i++) {
+        struct call x = good();
+        x.stability = states[i].s;
+        x.difficulty = states[i].d;
+        x.day = NAN; /* which goes unread */
+        for (x.row = 0; x.row < 2; x.row++) {
+            x.rating = 0;
+            expect_reason("padding", &x, FSRS_REASON_PADDING, states[i].of_s, states[i].of_d);
+            x.rating = -0.0f;
+            expect_reason("padding of -0.0", &x, FSRS_REASON_PADDING, states[i].of_s, states[i].of_d);
+        }
+    }
+}
+
+/* A first stability is a weight, and so never held; what is given does not count. */
+static void first_reasons(void) {
+    struct call x = good();
+    x.row = 0;
+    x.stability = -0.0f;
+    x.difficulty = 1e30f;
+    x.day = INFINITY;
+    x.rating = 1;
+    expect_reason("a first review", &x, FSRS_REASON_FIRST, FREE, FREE);
+    x.rating = 4;
+    expect_reason("an easy first review", &x, FSRS_REASON_FIRST, FREE, LOW);
+    const float ends[][2] = {{0, LOW}, {1, FREE}, {10, FREE}, {20, HIGH}};
+    for (size_t i = 0; i < sizeof ends / sizeof *ends; i++) {
+        x.rating = 1;
+        x.w[4] = ends[i][0];
+        x.w[0] = i % 2 ? 0.0001f : 36500;
+        expect_reason("a first difficulty", &x, FSRS_REASON_FIRST, FREE, (uint32_t)ends[i][1]);
+    }
+    x = good();
+    x.stability = 0;
+    expect_reason("stability 0 at row 1", &x, FSRS_REASON_SUCCESS, FREE, FREE);
+    x.stability = 5;
+    x.row = 0;
+    expect_reason("stability 5 at row 0", &x, FSRS_REASON_SUCCESS, FREE, FREE);
+}
+
+static void same_day_reasons(void) {
+    struct call x = good();
+    const float days[] = {0, -0.0f};
+    for (int i = 0; i < 2; i++) {
+        x = good();
+        x.day = days[i];
+        expect_reason("a raw multiplier below 1", &x, FSRS_REASON_SAME_DAY_ONE, FREE, FREE);
+        x.rating = 4;
+        expect_reason("a raw multiplier above 1", &x, FSRS_REASON_SAME_DAY_RAW, FREE, FREE);
+        x.rating = 1;
+        expect_reason("a raw multiplier below 1, rated 1", &x, FSRS_REASON_SAME_DAY_RAW, FREE, FREE);
+        x.w[17] = x.w[19] = 0; /* the raw multiplier is exactly 1 */
+        for (x.rating = 1; x.rating <= 4; x.rating++) {
+            expect_reason("a raw multiplier of 1", &x, FSRS_REASON_SAME_DAY_RAW, FREE, FREE);
+        }
+    }
+    /* 36500 times 1 is at the end, and not held there */
+    x = good();
+    x.day = 0;
+    x.stability = 36500;
+    expect_reason("the end itself", &x, FSRS_REASON_SAME_DAY_ONE, FREE, FREE);
+    x.w[19] = 0;
+    x.rating = 4;
+    expect_reason("above the end", &x, FSRS_REASON_SAME_DAY_RAW, HIGH, FREE);
+    x.rating = 1;
+    x.stability = 0;
+    expect_reason("below the end", &x, FSRS_REASON_SAME_DAY_RAW, LOW, FREE);
+}
+
+/* With these weights the raw value is weight 11 times the stability, and the floor the stability itself. */
+static struct call lapse_of(float w11, float stability) {
+    struct call x = good();
+    x.w[11] = w11;
+    x.w[12] = x.w[14] = x.w[17] = 0;
+    x.w[13] = 1;
+    x.stability = stability;
+    x.rating = 1;
+    expect(step(&x) == FSRS_ACCEPTED, "a lapse was refused");
+    expect_single("the floor", x.record[FSRS_RECORD_BRANCH_OTHER], stability < 0.0001f ? 0.0001f : stability);
+    expect_single("the raw value", x.record[FSRS_RECORD_BRANCH_RAW], w11 * (stability < 0.0001f ? 0.0001f : stability));
+    return x;
+}
+
+static void lapse_reasons(void) {
+    struct call x = lapse_of(1, 1);
+    expect_reason("raw value and floor equal", &x, FSRS_REASON_LAPSE_RAW, FREE, FREE);
+    x = lapse_of(1 + 0x1p-23f, 1);
+    expect_reason("the floor one step below", &x, FSRS_REASON_LAPSE_FLOOR, FREE, FREE);
+    x = lapse_of(1 - 0x1p-24f, 1);
+    expect_reason("the floor one step above", &x, FSRS_REASON_LAPSE_RAW, FREE, FREE);
+    /* a raw value of 0, held at the low end (document 01's eighth value) */
+    x = good();
+    x.w[13] = 0;
+    x.rating = 1;
+    x.day = 1;
+    expect_reason("a lapse without weight 13", &x, FSRS_REASON_LAPSE_RAW, LOW, FREE);
+    /* a floor below the low end, and one at the end itself */
+    x.w[13] = 1;
+    x.w[11] = 10;
+    x.stability = 0;
+    expect_reason("a floor below the end", &x, FSRS_REASON_LAPSE_FLOOR, LOW, FREE);
+    x.w[17] = 0;
+    expect_reason("a floor at the end", &x, FSRS_REASON_LAPSE_FLOOR, FREE, FREE);
+}
+
+static void success_reasons(void) {
+    const uint32_t reasons[] = {FSRS_REASON_SUCCESS_HARD, FSRS_REASON_SUCCESS, FSRS_REASON_SUCCESS_EASY};
+    const float days[] = {4, 0x1p-149f, -1, 100000};
+    for (int i = 0; i < 12; i++) {
+        struct call x = good();
+        x.day = days[i % 4];
+        x.rating = (float)(2 + i / 4);
+        expect_reason("a success", &x, reasons[i / 4], FREE, FREE);
+        x.w[15] = x.w[16] = 1; /* then all three give the same stability but for the rating */
+        expect_reason("a success with weights 15 and 16 at 1", &x, reasons[i / 4], FREE, FREE);
+    }
+    struct call x = good();
+    x.stability = x.day = 36500;
+    x.difficulty = 1;
+    x.rating = 4;
+    expect_reason("above both ends", &x, FSRS_REASON_SUCCESS_EASY, HIGH, LOW);
+    x.w[6] = 6;
+    x.w[7] = 0;
+    x.rating = 1;
+    x.difficulty = 5;
+    x.day = 0;
+    expect_reason("a difficulty above its end", &x, FSRS_REASON_SAME_DAY_RAW, FREE, HIGH);
+}
+
+/* 1, 2, 13, 6 and 7, in this order, and beside them nothing but 0. */
+static void reasons_refused(void) {
+    struct call x = good();
+    const fsrs_reason none = {0, 0, 0, 0};
+    x.stability = -1;
+    x.difficulty = 11;
+    x.day = NAN;
+    const uint32_t numbers[] = {FSRS_DAY, FSRS_RATING, FSRS_SCALAR, FSRS_WEIGHT_BOX, FSRS_WEIGHT_COUNT};
+    for (int i = 0; i < 5; i++) {
+        x.rating = i > 0 ? 4.5f : 4;
+        x.difficulty = i > 1 ? INFINITY : 11;
+        x.w[20] = i > 2 ? 1.5f : 0.5f;
+        x.w_len = i > 3 ? FSRS_WEIGHTS - 1 : FSRS_WEIGHTS;
+        fsrs_reason is = reason_of(&x), wanted = none;
+        wanted.refusal = numbers[i];
+        expect(memcmp(&is, &wanted, sizeof is) == 0, "a refused step: %" PRIu32 " %" PRIu32 " %" PRIu32 " %" PRIu32, is.refusal,
+               is.reason, is.stability_held, is.difficulty_held);
+    }
+}
+
+/* ---- where a loss call is at fault */
+
+static void expect_fault(const char *name, fsrs_fault is, uint32_t refusal, uint32_t column, uint32_t row) {
+    expect(is.refusal == refusal && is.column == column && is.row == row,
+           "%s: %" PRIu32 " at column %" PRIu32 ", row %" PRIu32 ", not %" PRIu32 " at %" PRIu32 ", %" PRIu32, name, is.refusal,
+           is.column, is.row, refusal, column, row);
+}
+
+enum {
+    IN_PREFIX = 1,
+    IN_CARD = 2,
+    AT_START = 4,
+    AT_END = 8,
+    PREFIXES = IN_PREFIX | AT_START | AT_END,
+    CARDS = IN_CARD | AT_START | AT_END,
+    BOTH = PREFIXES | CARDS
+};
+
+/* In the kinds and modes that are named: alone, with the gradient, and of the file, which has no mode. */
+static void expect_place(const char *name, struct call x, int where, uint32_t refusal, uint32_t column, uint32_t row) {
+    for (int end = 0; end < 2; end++) {
+        for (x.kind = 1; x.kind <= 2; x.kind++) {
+            if (!(where & (end ? AT_END : AT_START)) || !(where & (x.kind == 1 ? IN_PREFIX : IN_CARD))) {
+                continue;
+            }
+            bool is_card = x.kind == 2;
+            expect_fault(name, is_card ? card_place(&x, end) : batch_place(&x, end), refusal, column, row);
+            expect_fault(name, is_card ? card_grad_place(&x, end) : batch_grad_place(&x, end), refusal, column, row);
+            uint32_t loss = is_card ? card_grad_in(&x, end) : batch_grad_in(&x, end);
+            expect(loss == refusal, "%s: the loss is refused by %" PRIu32, name, loss);
+            if (!end) {
+                put_file(&x);
+                expect_fault(name, fsrs_batch_file_fault(x.file, x.file_len), refusal, column, row);
+            }
+        }
+    }
+}
+
+struct cell {
+    enum { RATING, DAY, WEIGHT, LABEL, TARGET_WEIGHT, TARGET_LABEL, TARGET_DAY, LENGTH } table;
+    int row, column;
+};
+
+#define NONE {RATING, -1, -1}
+
+static void spoil(struct call *x, struct cell c) {
+    int i = c.row * COLUMNS + c.column;
+    switch (c.table) {
+    case RATING:
+        x->ratings[i] = 7;
+        break;
+    case DAY:
+        x->days[i] = 100000.0078125f;
+        break;
+    case WEIGHT:
+        x->weights[i] = -1;
+        break;
+    case LABEL:
+        x->labels[i] = 1.5f;
+        break;
+    case TARGET_WEIGHT:
+        x->weights[c.column] = NAN;
+        break;
+    case TARGET_LABEL:
+        x->labels[c.column] = -INFINITY;
+        break;
+    case TARGET_DAY:
+        x->target_days[c.column] = -100000.0078125f;
+        break;
+    case LENGTH:
+        x->lengths[c.column] = 0;
+    }
+}
+
+/* One bad cell, and two: in one row, in two rows, in two columns, a target behind good and bad rows. The columns have 3 and 2
+ * rows. */
+static const struct {
+    const char *name;
+    struct cell first, second;
+    int where;
+    uint32_t refusal, column, row;
+} spoilt[] = {
+    {"a rating", {RATING, 0, 0}, NONE, BOTH, FSRS_RATING, 0, 0},
+    {"a rating below it", {RATING, 1, 0}, NONE, BOTH, FSRS_RATING, 0, 1},
+    {"a rating of the second column", {RATING, 0, 1}, NONE, BOTH, FSRS_RATING, 1, 0},
+    {"a last rating", {RATING, 2, 0}, NONE, PREFIXES, FSRS_RATING, 0, 2},
+    {"a card's last rating", {RATING, 1, 1}, NONE, IN_CARD | AT_END, FSRS_RATING, 1, 1},
+    {"a day", {DAY, 1, 1}, NONE, BOTH, FSRS_DAY, 1, 1},
+    {"a card's last day", {DAY, 2, 0}, NONE, BOTH, FSRS_DAY, 0, 2},
+    {"a weight", {WEIGHT, 1, 0}, NONE, CARDS, FSRS_REVIEW, 0, 1},
+    {"a label", {LABEL, 2, 0}, NONE, CARDS, FSRS_REVIEW, 0, 2},
+    {"a rating and a day of one row", {DAY, 1, 0}, {RATING, 1, 0}, BOTH, FSRS_RATING, 0, 1},
+    {"a day and a weight of one row", {WEIGHT, 1, 0}, {DAY, 1, 0}, BOTH, FSRS_DAY, 0, 1},
+    {"a day and a weight of a last row", {WEIGHT, 2, 0}, {DAY, 2, 0}, BOTH, FSRS_DAY, 0, 2},
+    {"a weight and a label of one row", {WEIGHT, 1, 0}, {LABEL, 1, 0}, CARDS, FSRS_REVIEW, 0, 1},
+    {"two rows", {RATING, 2, 0}, {DAY, 1, 0}, BOTH, FSRS_DAY, 0, 1},
+    {"two rows, the weight first", {RATING, 2, 0}, {WEIGHT, 1, 0}, CARDS, FSRS_REVIEW, 0, 1},
+    {"two columns", {RATING, 0, 1}, {DAY, 2, 0}, BOTH, FSRS_DAY, 0, 2},
+    {"two columns of one row", {RATING, 0, 1}, {RATING, 0, 0}, BOTH, FSRS_RATING, 0, 0},
+    {"a target's weight", {TARGET_WEIGHT, 0, 0}, NONE, PREFIXES, FSRS_REVIEW, 0, 3},
+    {"a target's label", {TARGET_LABEL, 0, 1}, NONE, PREFIXES, FSRS_REVIEW, 1, 2},
+    {"a target's day", {TARGET_DAY, 0, 1}, NONE, PREFIXES, FSRS_DAY, 1, 2},
+    {"a target's label and day", {TARGET_DAY, 0, 0}, {TARGET_LABEL, 0, 0}, PREFIXES, FSRS_REVIEW, 0, 3},
+    {"a target behind a bad row", {TARGET_WEIGHT, 0, 0}, {DAY, 2, 0}, PREFIXES, FSRS_DAY, 0, 2},
+    {"a target before a bad column", {TARGET_DAY, 0, 0}, {RATING, 0, 1}, PREFIXES, FSRS_DAY, 0, 3},
+    {"an empty prefix", {LENGTH, 0, 1}, NONE, PREFIXES, FSRS_EMPTY_PREFIX, 1, 0},
+    {"an empty prefix and its target", {LENGTH, 0, 0}, {TARGET_WEIGHT, 0, 0}, PREFIXES, FSRS_EMPTY_PREFIX, 0, 0},
+    {"an empty prefix behind a bad target", {LENGTH, 0, 1}, {TARGET_LABEL, 0, 0}, PREFIXES, FSRS_REVIEW, 0, 3},
+    {"an empty prefix before a bad column", {LENGTH, 0, 0}, {RATING, 0, 1}, PREFIXES, FSRS_EMPTY_PREFIX, 0, 0},
+};
+
+static void faults_placed(void) {
+    expect_place("a good call", good(), BOTH, FSRS_ACCEPTED, 0, 0);
+    for (size_t i = 0; i < sizeof spoilt / sizeof *spoilt; i++) {
+        struct call x = good();
+        spoil(&x, spoilt[i].first);
+        if (spoilt[i].second.row >= 0) {
+            spoil(&x, spoilt[i].second);
+        }
+        expect_place(spoilt[i].name, x, spoilt[i].where, spoilt[i].refusal, spoilt[i].column, spoilt[i].row);
+    }
+}
+
+/* What is not read is no fault: padding's day, also of -0.0, a first day, a card's first weight, what has the weight 0, what lies
+ * beyond a length. */
+static void faults_of_read_cells(void) {
+    struct call x = good();
+    x.ratings[2] = -0.0f;
+    x.days[0] = x.days[1] = x.days[2] = NAN;
+    x.ratings[5] = 9;
+    expect_place("cells that go unread", x, BOTH, FSRS_ACCEPTED, 0, 0);
+    x.days[4] = NAN;
+    expect_place("a day behind padding", x, BOTH, FSRS_DAY, 0, 2);
+    x = good();
+    x.weights[0] = x.weights[1] = NAN;
+    expect_place("a card's first weights", x, CARDS, FSRS_ACCEPTED, 0, 0);
+    x = good();
+    x.weights[0] = -0.0f;
+    x.labels[0] = x.target_days[0] = NAN;
+    x.lengths[0] = UINT32_MAX; /* cut to the rows */
+    x.labels[1] = 2;
+    expect_place("a target of weight -0.0", x, PREFIXES, FSRS_REVIEW, 1, 2);
+    x.weights[0] = 1;
+    expect_place("a target of a length that is cut", x, PREFIXES, FSRS_REVIEW, 0, 3);
+    /* behind padding: rows are counted from the table's first */
+    x = good();
+    x.ratings[0] = x.ratings[2] = 0;
+    x.days[0] = x.days[2] = x.days[4] = x.weights[2] = x.labels[2] = NAN;
+    expect_place("a first review in the last row", x, IN_CARD | AT_END, FSRS_ACCEPTED, 0, 0);
+    x.ratings[4] = 0.5f;
+    expect_place("its rating", x, IN_CARD | IN_PREFIX | AT_END, FSRS_RATING, 0, 2);
+    /* an all-padding prefix, whose target goes unread */
+    x = good();
+    x.ratings[0] = x.ratings[2] = x.ratings[4] = 0;
+    x.weights[0] = NAN;
+    expect_place("all padding", x, IN_PREFIX | AT_END, FSRS_ACCEPTED, 0, 0);
+    expect_place("all padding, at the start", x, IN_PREFIX | AT_START, FSRS_REVIEW, 0, 3);
+}
+
+/* 1, 2, 5, 3 and 4 name no place, whatever cells are bad, and come before them in this order. */
+static void faults_without_place(void) {
+    static void (*const makers[])(struct call *) = {records_short, cells_short, slots_short, weight_beyond, few_weights};
+    const uint32_t numbers[] = {FSRS_ROOM, FSRS_SIZES, FSRS_SLOT_COUNT, FSRS_WEIGHT_BOX, FSRS_WEIGHT_COUNT};
+    for (int bad = 0; bad < 2; bad++) {
+        struct call x = good();
+        if (bad) {
+            spoil(&x, (struct cell){RATING, 1, 1});
+        }
+        for (int i = 0; i < 5; i++) {
+            makers[i](&x);
+            for (int end = 0; end < 2; end++) {
+                expect_fault("of prefixes, with the gradient", batch_grad_place(&x, end), numbers[i], 0, 0);
+                expect_fault("of cards, with the gradient", card_grad_place(&x, end), numbers[i], 0, 0);
+                if (i == 1 || i > 2) {
+                    expect_fault("of prefixes", batch_place(&x, end), numbers[i], 0, 0);
+                    expect_fault("of cards", card_place(&x, end), numbers[i], 0, 0);
+                }
+            }
+        }
+    }
+    struct call x = good();
+    spoil(&x, (struct cell){RATING, 1, 0});
+    x.step_grads_len = ROWS - 1;
+    expect_fault("a step gradient too few", card_grad_place(&x, false), FSRS_ROOM, 0, 0);
+    x.step_grads_len = ROWS;
+    x.records_len = SIZE_MAX;
+    expect_fault("room for all", card_grad_place(&x, false), FSRS_RATING, 0, 1);
+    x.records_len = FSRS_RECORD * ROWS;
+    put_file(&x);
+    x.file_len--;
+    expect_fault("a malformed file", fsrs_batch_file_fault(x.file, x.file_len), FSRS_FILE, 0, 0);
+    x.w[20] = 1.5f;
+    put_file(&x);
+    expect_fault("a file with a bad weight", fsrs_batch_file_fault(x.file, x.file_len), FSRS_WEIGHT_BOX, 0, 0);
+}
+
 int main(void) {
     refusals();
     first_states_refused();
@@ -1156,5 +1641,15 @@ int main(void) {
     frozen();
     files();
     files_refused();
+    reasons_recorded();
+    padding_reasons();
+    first_reasons();
+    same_day_reasons();
+    lapse_reasons();
+    success_reasons();
+    reasons_refused();
+    faults_placed();
+    faults_of_read_cells();
+    faults_without_place();
     return finish();
 }

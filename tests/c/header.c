@@ -1,5 +1,5 @@
-/* What include/fsrs6.h says and defines by itself, in the part that C and C++ share: its version, refusals in words and by a
- * kernel's answer, the names in a record, and the box, whose table stands on standard input: WEIGHT FROM TO, a line each. */
+/* What include/fsrs6.h says and defines by itself, in the part that C and C++ share: its version, refusals and reasons in words, a
+ * refusal by a kernel's answer, the names in a record, and the box, whose table stands on standard input: WEIGHT FROM TO, a line each. */
 #include "../../include/fsrs6.h"
 #include "check.h"
 
@@ -13,20 +13,28 @@ static void version(void) {
     expect(strcmp(text, FSRS6_VERSION) == 0, "version %s, not %s", FSRS6_VERSION, text);
 }
 
+/* Numbers up to the last have each a text of their own, and those beyond one. */
+static void expect_texts(const char *(*text)(uint32_t), uint32_t last) {
+    expect(strcmp(text(UINT32_MAX), text(last + 1)) == 0, "numbers beyond have more than one text");
+    for (uint32_t i = 0; i <= last; i++) {
+        for (uint32_t j = i + 1; j <= last + 1; j++) {
+            expect(strcmp(text(i), text(j)) != 0, "%d and %d have one text", (int)i, (int)j);
+        }
+    }
+}
+
 static void texts(void) {
-    const char *other = fsrs_refusal_text(FSRS_EARLIER + 1);
     expect(strcmp(fsrs_refusal_text(FSRS_ACCEPTED), "accepted") == 0, "0 is not accepted");
     expect(strcmp(fsrs_refusal_text(FSRS_KERNEL), "an argument is outside the kernel's domain") == 0, "10 in words");
     expect(strcmp(fsrs_refusal_text(FSRS_IMPORT), "a card from SM-2 gets no finite stability or difficulty") == 0,
            "14 in words");
     expect(strcmp(fsrs_refusal_text(FSRS_EARLIER), "the day is earlier than the one on which the card was last seen") == 0,
            "15 in words");
-    expect(strcmp(fsrs_refusal_text(UINT32_MAX), other) == 0, "numbers beyond have more than one text");
-    for (uint32_t i = 0; i <= FSRS_EARLIER; i++) {
-        for (uint32_t j = i + 1; j <= FSRS_EARLIER + 1; j++) {
-            expect(strcmp(fsrs_refusal_text(i), fsrs_refusal_text(j)) != 0, "%d and %d have one text", (int)i, (int)j);
-        }
-    }
+    expect(strcmp(fsrs_reason_text(FSRS_REASON_LAPSE_FLOOR), "lapse, floor taken") == 0, "reason 5 in words");
+    expect(strcmp(fsrs_held_text(FSRS_HELD_HIGH), "held at its high end") == 0, "2 in words");
+    expect_texts(fsrs_refusal_text, FSRS_EARLIER);
+    expect_texts(fsrs_reason_text, FSRS_REASON_SUCCESS_EASY);
+    expect_texts(fsrs_held_text, FSRS_HELD_HIGH);
 }
 
 static void kernel_refusals(void) {
@@ -65,6 +73,11 @@ static const float ratings[ROWS] = {3, 3, 4, 1, 3, 0, 1, 1, 1};
 static const int branches[ROWS] = {
     FSRS_BRANCH_FIRST,   FSRS_BRANCH_SAME_DAY_ONE, FSRS_BRANCH_SAME_DAY, FSRS_BRANCH_LAPSE,         FSRS_BRANCH_SUCCESS,
     FSRS_BRANCH_PADDING, FSRS_BRANCH_LAPSE,        FSRS_BRANCH_SAME_DAY, FSRS_BRANCH_LAPSE_FLOORED,
+};
+
+static const uint32_t reasons[ROWS] = {
+    FSRS_REASON_FIRST,   FSRS_REASON_SAME_DAY_ONE, FSRS_REASON_SAME_DAY_RAW, FSRS_REASON_LAPSE_RAW,   FSRS_REASON_SUCCESS,
+    FSRS_REASON_PADDING, FSRS_REASON_LAPSE_RAW,    FSRS_REASON_SAME_DAY_RAW, FSRS_REASON_LAPSE_FLOOR,
 };
 
 /* A record by its names, for a step from (s, d) that was not held at an end. */
@@ -106,6 +119,8 @@ static void records(void) {
         expect(fsrs_training_step(w, FSRS_WEIGHTS, s, d, days[row], ratings[row], (size_t)row, &next_s, &next_d,
                                   record) == FSRS_ACCEPTED, "a step");
         expect_names(row, s, d, record);
+        fsrs_reason why = fsrs_explain_step(w, FSRS_WEIGHTS, s, d, days[row], ratings[row], (size_t)row);
+        expect(why.refusal == FSRS_ACCEPTED && why.reason == reasons[row], "row %d: reason %d", row, (int)why.reason);
         expect(record[FSRS_RECORD_PRE_STABILITY] == next_s && record[FSRS_RECORD_PRE_DIFFICULTY] <= next_d,
                "row %d: the state after it", row);
         for (int f = 0; f < FSRS_RECORD; f++) {

@@ -241,66 +241,69 @@ def room_refusal(c, lent):
     return 4 if any(cut(c, column) > room for column in range(c.columns)) else 0
 
 
-def prefix_column_refusal(c, column):
-    if cut(c, column) == 0:
-        return 9
-    for row in range(cut(c, column)):
+def prefix_column_fault(c, column):
+    """The number of the first that is bad, and its row. K7: 'the row is 0 for 9 and the cut length for a target'."""
+    n = cut(c, column)
+    if n == 0:
+        return 9, 0
+    for row in range(n):
         idx = row * c.columns + column
         if not is_rating(c.ratings[idx]):
-            return 6
+            return 6, row
         if row > first(c, column) and c.ratings[idx] != 0 and not is_day(c.days[idx]):
-            return 7
+            return 7, row
     weight = target_weight(c, column)
     if not is_weight(weight):
-        return 8
+        return 8, n
     if weight != 0:
         if not is_label(c.labels[column]):
-            return 8
+            return 8, n
         if not is_day(c.targets[column]):
-            return 7
-    return 0
+            return 7, n
+    return None
 
 
-def card_column_refusal(c, column):
+def card_column_fault(c, column):
     n = cut(c, column)
     for row in range(n):
         idx = row * c.columns + column
         is_last = row == n - 1
         if (c.is_end or not is_last) and not is_rating(c.ratings[idx]):
-            return 6
+            return 6, row
         if row > first(c, column):
             weight = weight_at(c, idx)
             if (weight if is_last else c.ratings[idx]) != 0 and not is_day(c.days[idx]):
-                return 7
+                return 7, row
             if not is_weight(weight):
-                return 8
+                return 8, row
             if weight != 0 and not is_label(c.labels[idx]):
-                return 8
-    return 0
+                return 8, row
+    return None
 
 
-def refusal(w, c, lent):
+def fault(w, c, lent):
+    """K7: the refusal, and the column and row of the cell that it is given for, 0 where there is none."""
     if weights_refusal(w):
-        return weights_refusal(w)
+        return weights_refusal(w), 0, 0
     if lent and len(lent.gw) != 21:
-        return 5
+        return 5, 0, 0
     if size_refusal(c):
-        return 3
+        return 3, 0, 0
     if lent and room_refusal(c, lent):
-        return 4
-    column_refusal = card_column_refusal if c.is_card else prefix_column_refusal
+        return 4, 0, 0
+    column_fault = card_column_fault if c.is_card else prefix_column_fault
     for column in range(c.columns):
-        n = column_refusal(c, column)
-        if n:
-            return n
-    return 0
+        found = column_fault(c, column)
+        if found:
+            return found[0], column, found[1]
+    return 0, 0, 0
 
 
 # ---- the entries
 
 def called(w, c, lent):
     """The refusal and the loss."""
-    n = refusal(w, c, lent)
+    n = fault(w, c, lent)[0]
     return n, summed(w, c, lent) if n == 0 else double(0)
 
 
@@ -325,9 +328,9 @@ def digest(lent):
 branches = set()
 
 
-def begin(name, names):
-    """The list that the lines below belong to."""
-    begin.lines = Lines(name, names)
+def begin(name, names, tell=None):
+    """The list that the lines below belong to, and what a line tells of a call where that is not its answer."""
+    begin.lines, begin.tell = Lines(name, names), tell or tell_answer
 
 
 def remark(text):
@@ -358,17 +361,25 @@ def note_branches(c, lent):
 
 def tell(c, with_grad=True):
     """A line of a call: with gradients, or the loss alone."""
-    lent = lent_to(start.slots, c) if with_grad else None
+    begin.tell(c, lent_to(start.slots, c) if with_grad else None)
+
+
+def inputs_of(c):
+    """The words that a call begins with."""
     assert max(len(x) for x in (c.days, c.ratings, c.targets, c.labels, c.weights)) <= CELLS
     assert len(c.lengths) <= COLUMNS_MAX and c.records[0] <= RECORDS and c.step_grads[0] <= STEP_GRADS
+    words = [c.rows, c.columns, *slice_of(c.days, 8), *slice_of(c.ratings, 8), len(c.lengths), *c.lengths]
+    return words + slice_of(c.targets, 8) + slice_of(c.labels, 8) + slice_of(c.weights, 8)
+
+
+def tell_answer(c, lent):
+    words = inputs_of(c)
     n, loss = called(take.weights, c, lent)
     if lent and n == 0:
         note_branches(c, lent)
-    words = [c.rows, c.columns, *slice_of(c.days, 8), *slice_of(c.ratings, 8), len(c.lengths), *c.lengths]
-    words += slice_of(c.targets, 8) + slice_of(c.labels, 8) + slice_of(c.weights, 8)
     for (count, first), digits in ((c.records, 8), (c.step_grads, 16)):
-        words += [count, "%0*x" % (digits, first)] if with_grad else [0, "0" * digits]
-    letter = str(4 * c.is_end + 2 * c.is_card + (not with_grad))
+        words += [count, "%0*x" % (digits, first)] if lent else [0, "0" * digits]
+    letter = str(4 * c.is_end + 2 * c.is_card + (not lent))
     begin.lines.add(letter, *words, n, "%016x" % loss.b, "%016x" % digest(lent))
 
 
@@ -1267,8 +1278,9 @@ def write_aligned():
     begin.lines.write()
 
 
-if is_trial:
-    try_answers()
-else:
-    write_losses()
-    write_aligned()
+if __name__ == "__main__":
+    if is_trial:
+        try_answers()
+    else:
+        write_losses()
+        write_aligned()

@@ -522,4 +522,5 @@ def main():
     lines.write()
 
 
-main()
+if __name__ == "__main__":
+    main()

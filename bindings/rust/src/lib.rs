@@ -25,11 +25,16 @@
 //! of [`next_state_on`], which is told its day and carries it on with the state ([`Seen`]); or of [`next_state`], which is
 //! told the days between. After each [`next_interval`] tells when to show the card again.
 //!
+//! Why a step moved a card is told by [`explain_step`], and where a loss call has its first bad cell by [`card_loss_fault`] and
+//! its like.
+//!
 //! No function keeps anything from one call to the next, so any number of calls may run at once, on any threads. One duty
 //! of the header's no type can see to: a thread's floats are as they start, rounded to nearest and subnormals not flushed.
 #![deny(missing_docs)]
 #![deny(unsafe_code)]
 
+mod explain;
+mod faults;
 mod formulas;
 mod kernels;
 mod losses;
@@ -41,6 +46,11 @@ mod refusal;
 mod rows;
 mod step;
 
+pub use explain::{explain_step, Explanation, Held, Reason};
+pub use faults::{
+    batch_file_fault, batch_loss_and_grad_fault, batch_loss_fault, card_loss_and_grad_fault, card_loss_fault, Fault,
+    Place,
+};
 pub use formulas::{
     check_and_fill_parameters, first_state, init_difficulty, mean_reversion, memory_state_from_sm2, next_difficulty,
     next_interval, next_state, next_state_on, power_forgetting_curve, stability_after_failure, stability_after_success,

@@ -5,11 +5,27 @@
 //! overlaps what is lent by `&mut`. This is the ground of every call below.
 
 use crate::{
-    Align, Cards, Claimed, Prefixes, Refusal, Seen, State, StateGradient, Step, Stepped, Verdict, RECORD, WEIGHTS,
+    Align, Cards, Claimed, Explanation, Fault, Held, Prefixes, Reason, Refusal, Seen, State, StateGradient, Step,
+    Stepped, Verdict, RECORD, WEIGHTS,
 };
 
 /// The declarations, as in the header. Of a loss that is the function that takes the mode.
 mod c {
+    #[repr(C)]
+    pub struct Reasoned {
+        pub refusal: u32,
+        pub reason: u32,
+        pub stability_held: u32,
+        pub difficulty_held: u32,
+    }
+
+    #[repr(C)]
+    pub struct Found {
+        pub refusal: u32,
+        pub column: u32,
+        pub row: u32,
+    }
+
     extern "C" {
         pub fn fsrs_exp_f32(x: f32) -> f32;
         pub fn fsrs_exp_f64(x: f64) -> f64;
@@ -140,6 +156,16 @@ mod c {
             grad_d: *mut f64,
         ) -> u32;
 
+        pub fn fsrs_explain_step(
+            w: *const f32,
+            w_len: usize,
+            stability: f32,
+            difficulty: f32,
+            day: f32,
+            rating: f32,
+            row: usize,
+        ) -> Reasoned;
+
         pub fn fsrs_batch_loss_in(
             end: bool,
             w: *const f32,
@@ -226,6 +252,84 @@ mod c {
             step_grads_len: usize,
             loss: *mut f64,
         ) -> u32;
+        pub fn fsrs_batch_loss_fault(
+            end: bool,
+            w: *const f32,
+            w_len: usize,
+            t_hist: *const f32,
+            t_hist_len: usize,
+            r_hist: *const f32,
+            r_hist_len: usize,
+            seq_len: u32,
+            batch: u32,
+            seq_lens: *const u32,
+            seq_lens_len: usize,
+            delta_ts: *const f32,
+            delta_ts_len: usize,
+            labels: *const f32,
+            labels_len: usize,
+            weights: *const f32,
+            weights_len: usize,
+        ) -> Found;
+        pub fn fsrs_batch_loss_and_grad_fault(
+            end: bool,
+            w: *const f32,
+            w_len: usize,
+            t_hist: *const f32,
+            t_hist_len: usize,
+            r_hist: *const f32,
+            r_hist_len: usize,
+            seq_len: u32,
+            batch: u32,
+            seq_lens: *const u32,
+            seq_lens_len: usize,
+            delta_ts: *const f32,
+            delta_ts_len: usize,
+            labels: *const f32,
+            labels_len: usize,
+            weights: *const f32,
+            weights_len: usize,
+            gw_len: usize,
+            records_len: usize,
+        ) -> Found;
+        pub fn fsrs_card_loss_fault(
+            end: bool,
+            w: *const f32,
+            w_len: usize,
+            t_hist: *const f32,
+            t_hist_len: usize,
+            r_hist: *const f32,
+            r_hist_len: usize,
+            seq_len: u32,
+            batch: u32,
+            seq_lens: *const u32,
+            seq_lens_len: usize,
+            labels: *const f32,
+            labels_len: usize,
+            weights: *const f32,
+            weights_len: usize,
+        ) -> Found;
+        pub fn fsrs_card_loss_and_grad_fault(
+            end: bool,
+            w: *const f32,
+            w_len: usize,
+            t_hist: *const f32,
+            t_hist_len: usize,
+            r_hist: *const f32,
+            r_hist_len: usize,
+            seq_len: u32,
+            batch: u32,
+            seq_lens: *const u32,
+            seq_lens_len: usize,
+            labels: *const f32,
+            labels_len: usize,
+            weights: *const f32,
+            weights_len: usize,
+            gw_len: usize,
+            records_len: usize,
+            step_grads_len: usize,
+        ) -> Found;
+
         pub fn fsrs_l2_penalty(
             w: *const f32,
             w_len: usize,
@@ -241,6 +345,7 @@ mod c {
             penalty: *mut f64,
         ) -> u32;
         pub fn fsrs_batch_file(file: *const u8, file_len: usize, gw: *mut f64, gw_len: usize, loss: *mut f64) -> u32;
+        pub fn fsrs_batch_file_fault(file: *const u8, file_len: usize) -> Found;
     }
 }
 
@@ -440,6 +545,19 @@ pub fn training_step_backward(
     Refusal::accepted(number, before)
 }
 
+pub fn explain_step(w: &[f32], x: Step) -> Result<Explanation, Refusal> {
+    // SAFETY: w is a slice with its own length; the answer is returned.
+    let is = unsafe {
+        c::fsrs_explain_step(w.as_ptr(), w.len(), x.state.stability, x.state.difficulty, x.day, x.rating, x.row)
+    };
+    let explanation = Explanation {
+        reason: Reason::of_number(is.reason),
+        stability_held: Held::of_number(is.stability_held),
+        difficulty_held: Held::of_number(is.difficulty_held),
+    };
+    Refusal::accepted(is.refusal, explanation)
+}
+
 /// Losses: a weight set and a batch in, what is lent by `&mut`, one double out.
 macro_rules! losses {
     ($($name:ident = $c:ident($x:ident: $batch:ident, [$($read:ident),*], [$($lent:ident: $float:ty),*]);)*) => {$(
@@ -479,6 +597,42 @@ losses! {
         x: Cards, [labels, weights], [gw: f64, records: f32, step_grads: f64]);
 }
 
+/// Their faults: the same in, and of what is lent the lengths.
+macro_rules! faults {
+    ($($name:ident = $c:ident($x:ident: $batch:ident, [$($read:ident),*], [$($length:ident),*]);)*) => {$(
+        pub fn $name(w: &[f32], $x: &$batch, $($length: usize),*) -> Option<Fault> {
+            // SAFETY: each pointer is a slice's and goes with that slice's length; the answer is returned.
+            let is = unsafe {
+                c::$c(
+                    $x.align == Align::End,
+                    w.as_ptr(),
+                    w.len(),
+                    $x.days.as_ptr(),
+                    $x.days.len(),
+                    $x.ratings.as_ptr(),
+                    $x.ratings.len(),
+                    $x.rows,
+                    $x.columns,
+                    $x.lengths.as_ptr(),
+                    $x.lengths.len(),
+                    $($x.$read.as_ptr(), $x.$read.len(),)*
+                    $($length,)*
+                )
+            };
+            Fault::of_numbers(is.refusal, is.column, is.row)
+        }
+    )*};
+}
+
+faults! {
+    batch_loss_fault = fsrs_batch_loss_fault(x: Prefixes, [target_days, labels, weights], []);
+    batch_loss_and_grad_fault = fsrs_batch_loss_and_grad_fault(
+        x: Prefixes, [target_days, labels, weights], [gw_len, records_len]);
+    card_loss_fault = fsrs_card_loss_fault(x: Cards, [labels, weights], []);
+    card_loss_and_grad_fault = fsrs_card_loss_and_grad_fault(
+        x: Cards, [labels, weights], [gw_len, records_len, step_grads_len]);
+}
+
 pub fn l2_penalty(
     w: &[f32],
     init_w: &[f32],
@@ -515,4 +669,10 @@ pub fn batch_file(file: &[u8], gw: &mut [f64]) -> Result<f64, Refusal> {
     // SAFETY: file and gw are slices with their own lengths, gw by &mut; loss is this function's.
     let number = unsafe { c::fsrs_batch_file(file.as_ptr(), file.len(), gw.as_mut_ptr(), gw.len(), &mut loss) };
     Refusal::accepted(number, loss)
+}
+
+pub fn batch_file_fault(file: &[u8]) -> Option<Fault> {
+    // SAFETY: file is a slice with its own length; the answer is returned.
+    let is = unsafe { c::fsrs_batch_file_fault(file.as_ptr(), file.len()) };
+    Fault::of_numbers(is.refusal, is.column, is.row)
 }

@@ -130,6 +130,23 @@ const CARD_GRAD: Function = |x| {
     card_loss_and_grad(&y.w, &y.cards(), &mut x.gw, &mut x.records, &mut x.step_grads).map(drop)
 };
 
+const EXPLAIN: Function = function!(|x| explain_step(&x.w, x.step));
+/// The fault of a call, as the call's own refusal.
+fn refused(fault: Option<Fault>) -> Result<(), Refusal> {
+    fault.map_or(Ok(()), |fault| Err(fault.refusal))
+}
+const PREFIX_FAULT: Function = |x| refused(batch_loss_fault(&x.w, &x.prefixes()));
+const PREFIX_GRAD_FAULT: Function =
+    |x| refused(batch_loss_and_grad_fault(&x.w, &x.prefixes(), x.gw.len(), x.records.len()));
+const CARD_FAULT: Function = |x| refused(card_loss_fault(&x.w, &x.cards()));
+const CARD_GRAD_FAULT: Function =
+    |x| refused(card_loss_and_grad_fault(&x.w, &x.cards(), x.gw.len(), x.records.len(), x.step_grads.len()));
+const STEPS: [Function; 3] = [STEP, STEP_BACKWARD, EXPLAIN];
+const PREFIXES: [Function; 4] = [PREFIX, PREFIX_GRAD, PREFIX_FAULT, PREFIX_GRAD_FAULT];
+const LOSSES: [Function; 8] =
+    [PREFIX, PREFIX_GRAD, PREFIX_FAULT, PREFIX_GRAD_FAULT, CARD, CARD_GRAD, CARD_FAULT, CARD_GRAD_FAULT];
+const GRADS: [Function; 4] = [PREFIX_GRAD, PREFIX_GRAD_FAULT, CARD_GRAD, CARD_GRAD_FAULT];
+
 /// Each function accepts the good call, and refuses it with the fault, writing nothing; in both modes.
 fn refuse(functions: &[Function], refusal: Refusal, fault: fn(&mut Call)) {
     for align in [Align::Start, Align::End] {
@@ -147,7 +164,8 @@ fn refuse(functions: &[Function], refusal: Refusal, fault: fn(&mut Call)) {
 #[test]
 fn weights_are_refused() {
     let mut functions = FORMULAS.to_vec();
-    functions.extend([STEP, STEP_BACKWARD, PREFIX, PREFIX_GRAD, CARD, CARD_GRAD]);
+    functions.extend(STEPS);
+    functions.extend(LOSSES);
     refuse(&functions, Refusal::WeightCount, |x| x.w.truncate(20));
     refuse(&functions, Refusal::WeightCount, |x| x.w.clear());
     functions.push(FILL);
@@ -159,7 +177,7 @@ fn weights_are_refused() {
 #[test]
 fn scalars_are_refused() {
     let mut functions = FORMULAS.to_vec();
-    functions.extend([STEP, STEP_BACKWARD]);
+    functions.extend(STEPS);
     refuse(&functions, Refusal::Scalar, |x| {
         x.step.state = State { stability: f32::INFINITY, difficulty: f32::NAN };
         x.rating = 5;
@@ -339,22 +357,21 @@ fn penalties_pull_back() {
 
 #[test]
 fn slots_sizes_and_room_are_refused() {
-    refuse(&[STEP_BACKWARD, PREFIX_GRAD, CARD_GRAD], Refusal::SlotCount, |x| x.gw.truncate(20));
-    let losses = [PREFIX, PREFIX_GRAD, CARD, CARD_GRAD];
-    refuse(&losses, Refusal::Sizes, |x| x.rows = MAX_ROWS + 1);
-    refuse(&losses, Refusal::Sizes, |x| x.columns = MAX_COLUMNS + 1);
-    refuse(&losses, Refusal::Sizes, |x| x.days.truncate(CELLS - 1));
-    refuse(&losses, Refusal::Sizes, |x| x.ratings.clear());
-    refuse(&losses, Refusal::Sizes, |x| x.lengths.clear());
-    refuse(&[PREFIX_GRAD, CARD_GRAD], Refusal::Room, |x| x.records.truncate(RECORD * ROWS - 1));
-    refuse(&[CARD_GRAD], Refusal::Room, |x| x.step_grads.clear());
+    refuse(&[STEP_BACKWARD], Refusal::SlotCount, |x| x.gw.truncate(20));
+    refuse(&GRADS, Refusal::SlotCount, |x| x.gw.truncate(20));
+    refuse(&LOSSES, Refusal::Sizes, |x| x.rows = MAX_ROWS + 1);
+    refuse(&LOSSES, Refusal::Sizes, |x| x.columns = MAX_COLUMNS + 1);
+    refuse(&LOSSES, Refusal::Sizes, |x| x.days.truncate(CELLS - 1));
+    refuse(&LOSSES, Refusal::Sizes, |x| x.ratings.clear());
+    refuse(&LOSSES, Refusal::Sizes, |x| x.lengths.clear());
+    refuse(&GRADS, Refusal::Room, |x| x.records.truncate(RECORD * ROWS - 1));
+    refuse(&[CARD_GRAD, CARD_GRAD_FAULT], Refusal::Room, |x| x.step_grads.clear());
 }
 
 #[test]
 fn reviews_are_refused() {
-    let losses = [PREFIX, PREFIX_GRAD, CARD, CARD_GRAD];
-    let mut functions = losses.to_vec();
-    functions.extend([STEP, STEP_BACKWARD]);
+    let mut functions = LOSSES.to_vec();
+    functions.extend(STEPS);
     refuse(&functions, Refusal::Rating, |x| {
         x.step.rating = 5.0;
         x.ratings[0] = 5.0;
@@ -363,9 +380,9 @@ fn reviews_are_refused() {
         x.step.day = BEYOND;
         x.days[COLUMNS] = BEYOND;
     });
-    refuse(&losses, Refusal::Review, |x| x.labels.fill(1.5));
-    refuse(&losses, Refusal::Review, |x| x.weights.fill(f32::NAN));
-    refuse(&[PREFIX, PREFIX_GRAD], Refusal::EmptyPrefix, |x| x.lengths[1] = 0);
+    refuse(&LOSSES, Refusal::Review, |x| x.labels.fill(1.5));
+    refuse(&LOSSES, Refusal::Review, |x| x.weights.fill(f32::NAN));
+    refuse(&PREFIXES, Refusal::EmptyPrefix, |x| x.lengths[1] = 0);
 }
 
 #[test]
@@ -378,13 +395,25 @@ fn refusals_have_document_01s_numbers() {
 /// The words of `fsrs_refusal_text`, after that for no refusal, are the same.
 #[test]
 fn refusals_have_the_headers_words() {
-    let path = concat!(env!("CARGO_MANIFEST_DIR"), "/../../include/fsrs6.h");
-    let header = std::fs::read_to_string(path).expect(path);
-    let (_, table) = header.split_once("texts[] = {").expect("the table");
-    let (table, _) = table.split_once("};").expect("its end");
-    let words: Vec<_> = table.split('"').skip(1).step_by(2).map(str::to_string).collect();
+    let words = header_words("fsrs_refusal_text");
     assert_eq!(words[0], "accepted");
     assert_eq!(words[1..], Refusal::ALL.map(|refusal| refusal.to_string()));
+}
+
+/// The texts of one of the header's functions, by their numbers.
+fn header_words(function: &str) -> Vec<String> {
+    let path = concat!(env!("CARGO_MANIFEST_DIR"), "/../../include/fsrs6.h");
+    let header = std::fs::read_to_string(path).expect(path);
+    let (_, body) = header.split_once(&format!("{function}(uint32_t number) {{")).expect("the function");
+    let (_, table) = body.split_once("texts[] = {").expect("the table");
+    let (table, _) = table.split_once("};").expect("its end");
+    table.split('"').skip(1).step_by(2).map(str::to_string).collect()
+}
+
+#[test]
+fn reasons_have_the_headers_words() {
+    assert_eq!(header_words("fsrs_reason_text"), Reason::ALL.map(|reason| reason.to_string()));
+    assert_eq!(header_words("fsrs_held_text"), Held::ALL.map(|held| held.to_string()));
 }
 
 #[test]
@@ -575,6 +604,161 @@ mod records {
     }
 }
 
+mod reasons {
+    use super::*;
+
+    fn explained(change: impl FnOnce(&mut Call)) -> (Reason, Held, Held) {
+        let x = Call::with(change);
+        let is = explain_step(&x.w, x.step).expect("a step");
+        (is.reason, is.stability_held, is.difficulty_held)
+    }
+
+    fn outside(stability: f32, difficulty: f32) -> (Reason, Held, Held) {
+        explained(|x| {
+            // the day goes unread
+            x.step = Step { state: State { stability, difficulty }, day: f32::NAN, rating: -0.0, row: 7 };
+        })
+    }
+
+    #[test]
+    fn numbers_are_the_headers() {
+        assert_eq!(Reason::ALL.map(Reason::number), [0, 1, 2, 3, 4, 5, 6, 7, 8]);
+        assert_eq!(Held::ALL.map(Held::number), [0, 1, 2]);
+        assert_eq!((Reason::SuccessHard.number(), Held::High.number()), (7, 2));
+    }
+
+    /// In padding it is the given state that is held, and an end itself is not outside.
+    #[test]
+    fn padding_is_held_by_what_is_given() {
+        assert_eq!(outside(0.0, 0.0), (Reason::Padding, Held::Low, Held::Low));
+        assert_eq!(outside(36501.0, 10.5), (Reason::Padding, Held::High, Held::High));
+        for (stability, difficulty) in [(0.0001, 1.0), (36500.0, 10.0), (5.0, 6.0)] {
+            assert_eq!(outside(stability, difficulty), (Reason::Padding, Held::Free, Held::Free));
+        }
+    }
+
+    #[test]
+    fn every_reason_is_met() {
+        let free = |reason| (reason, Held::Free, Held::Free);
+        let first = |rating| explained(|x| x.step = Step { rating, ..Step::default() });
+        assert_eq!(first(1.0), free(Reason::First));
+        assert_eq!(first(4.0), (Reason::First, Held::Free, Held::Low));
+        let rated = |day, rating| explained(|x| (x.step.day, x.step.rating) = (day, rating));
+        assert_eq!(rated(-0.0, 3.0), free(Reason::SameDayOne));
+        assert_eq!(rated(0.0, 4.0), free(Reason::SameDayRaw));
+        assert_eq!(rated(0.0, 1.0), free(Reason::SameDayRaw));
+        assert_eq!(rated(4.0, 1.0), free(Reason::LapseRaw));
+        assert_eq!(rated(4.0, 2.0), free(Reason::SuccessHard));
+        assert_eq!(rated(4.0, 3.0), free(Reason::Success));
+        assert_eq!(rated(-4.0, 4.0), free(Reason::SuccessEasy));
+        // a raw multiplier of exactly 1 counts as raw
+        let one = explained(|x| (x.w[17], x.w[19], x.step.day) = (0.0, 0.0, 0.0));
+        assert_eq!(one, free(Reason::SameDayRaw));
+        // the raw value is weight 11 times the stability, and the floor the stability: equality takes the raw value
+        let lapse = |w11| {
+            explained(|x| {
+                (x.w[11], x.w[12], x.w[13], x.w[14], x.w[17]) = (w11, 0.0, 1.0, 0.0, 0.0);
+                x.step.state.stability = 1.0;
+                x.step.rating = 1.0;
+            })
+        };
+        assert_eq!(lapse(1.0), free(Reason::LapseRaw));
+        assert_eq!(lapse(1.0 + f32::EPSILON), free(Reason::LapseFloor));
+    }
+
+    /// What is held is the output, at that end; the reason up to 5 is the record's branch.
+    #[test]
+    fn a_reason_goes_with_its_record() {
+        for (stability, difficulty, day, rating) in
+            [(36500.0, 1.0, 36500.0, 4.0), (0.0, 9.9, 0.0, 1.0), (5.0, 6.0, 0.0, 3.0), (-1.0, 11.0, 1.0, 0.0)]
+        {
+            let w = Call::with(|x| x.w[19] = 0.0).w;
+            let step = Step { state: State { stability, difficulty }, day, rating, row: 1 };
+            let (is, stepped) = (explain_step(&w, step).expect("a step"), training_step(&w, step).expect("a step"));
+            assert_eq!(is.reason.number().min(6) as f32, stepped.record[RECORD_BRANCH]);
+            let at_end = |held, x, low, high| match held {
+                Held::Free => x,
+                Held::Low => low,
+                Held::High => high,
+            };
+            let State { stability: s, difficulty: d } = stepped.state;
+            assert_eq!(at_end(is.stability_held, s, 0.0001, 36500.0), s, "{step:?}");
+            assert_eq!(at_end(is.difficulty_held, d, 1.0, 10.0), d, "{step:?}");
+        }
+    }
+}
+
+mod faults {
+    use super::*;
+
+    /// The faults of both kinds, in both modes: alone and with the gradient they are the same.
+    fn places(x: &Call) -> [Option<Fault>; 4] {
+        let at = |align| {
+            let x = Call { align, ..x.clone() };
+            let (prefix, card) = (batch_loss_fault(&x.w, &x.prefixes()), card_loss_fault(&x.w, &x.cards()));
+            assert_eq!(batch_loss_and_grad_fault(&x.w, &x.prefixes(), WEIGHTS, RECORD * ROWS), prefix);
+            assert_eq!(card_loss_and_grad_fault(&x.w, &x.cards(), WEIGHTS, RECORD * ROWS, ROWS), card);
+            assert_eq!(batch_loss(&x.w, &x.prefixes()).err(), prefix.map(|fault| fault.refusal));
+            assert_eq!(card_loss(&x.w, &x.cards()).err(), card.map(|fault| fault.refusal));
+            [prefix, card]
+        };
+        let ([prefix, card], [prefix_at_end, card_at_end]) = (at(Align::Start), at(Align::End));
+        [prefix, card, prefix_at_end, card_at_end]
+    }
+
+    fn at(refusal: Refusal, column: u32, row: u32) -> Option<Fault> {
+        Some(Fault { refusal, place: Some(Place { column, row }) })
+    }
+
+    #[test]
+    fn the_first_bad_cell_is_named() {
+        assert_eq!(places(&Call::good()), [None; 4]);
+        let one = Call::with(|x| x.ratings[COLUMNS + 1] = 7.0);
+        let rating = at(Refusal::Rating, 1, 1);
+        assert_eq!(places(&one), [rating, None, rating, rating]); // a card's last rating is read at the end alone
+                                                                  // two cells of a row, two rows, two columns
+        let row = Call::with(|x| (x.ratings[COLUMNS], x.days[COLUMNS]) = (f32::NAN, BEYOND));
+        assert_eq!(places(&row), [at(Refusal::Rating, 0, 1); 4]);
+        let rows = Call::with(|x| (x.days[COLUMNS], x.days[2 * COLUMNS]) = (BEYOND, BEYOND));
+        assert_eq!(places(&rows), [at(Refusal::Day, 0, 1); 4]);
+        let columns = Call::with(|x| (x.ratings[1], x.days[2 * COLUMNS]) = (5.0, BEYOND));
+        assert_eq!(places(&columns), [at(Refusal::Day, 0, 2); 4]);
+        // of a prefix the scored review, behind its rows; of a card the first weights go unread
+        let target = Call::with(|x| x.weights[1] = f32::NAN);
+        let review = at(Refusal::Review, 1, 2);
+        assert_eq!(places(&target), [review, None, review, None]);
+        let cut = Call::with(|x| (x.weights[0], x.lengths[0]) = (-1.0, u32::MAX));
+        let review = at(Refusal::Review, 0, ROWS as u32);
+        assert_eq!(places(&cut), [review, None, review, None]);
+        let empty = Call::with(|x| x.lengths[1] = 0);
+        let none = at(Refusal::EmptyPrefix, 1, 0);
+        assert_eq!(places(&empty), [none, None, none, None]);
+    }
+
+    #[test]
+    fn other_refusals_name_no_place() {
+        let x = Call::with(|x| x.ratings[1] = 7.0);
+        let of = |refusal| Some(Fault { refusal, place: None });
+        let [gw, records] = [WEIGHTS, RECORD * ROWS];
+        assert_eq!(card_loss_and_grad_fault(&x.w, &x.cards(), gw, records, ROWS - 1), of(Refusal::Room));
+        assert_eq!(card_loss_and_grad_fault(&x.w, &x.cards(), gw, records - 1, ROWS), of(Refusal::Room));
+        assert_eq!(batch_loss_and_grad_fault(&x.w, &x.prefixes(), gw, records - 1), of(Refusal::Room));
+        let short = Cards { days: &[], ..x.cards() };
+        assert_eq!(card_loss_and_grad_fault(&x.w, &short, gw, 0, 0), of(Refusal::Sizes));
+        assert_eq!(card_loss_and_grad_fault(&x.w, &short, gw - 1, 0, 0), of(Refusal::SlotCount));
+        assert_eq!(card_loss_and_grad_fault(&x.w[..20], &short, gw - 1, 0, 0), of(Refusal::WeightCount));
+        let beyond = Call::with(|y| (y.w[20], y.ratings[1]) = (1.5, 7.0));
+        assert_eq!(places(&beyond), [of(Refusal::WeightBox); 4]);
+    }
+
+    #[test]
+    fn a_fault_has_words() {
+        let words = |fault: Option<Fault>| fault.expect("a fault").to_string();
+        assert_eq!(words(at(Refusal::Rating, 2, 1)), "column 2, row 1: a rating is not 0, 1, 2, 3 or 4");
+        assert_eq!(words(Some(Fault { refusal: Refusal::Room, place: None })), Refusal::Room.to_string());
+    }
+}
+
 #[test]
 fn a_gradient_gives_the_loss_alone_and_what_is_lent() {
     let mut x = Call::good();
@@ -685,6 +869,7 @@ mod files {
         let mut gw = [2.5; WEIGHTS];
         assert_eq!(batch_file(file, &mut gw), Err(Refusal::File));
         assert_eq!(gw, [2.5; WEIGHTS]);
+        assert_eq!(batch_file_fault(file), Some(Fault { refusal: Refusal::File, place: None }));
     }
 
     #[test]
@@ -694,6 +879,23 @@ mod files {
         assert_eq!(batch_file(&file, &mut gw), Ok(0.0));
         assert_eq!(gw, [0.0; WEIGHTS]);
         assert_eq!(batch_file(&file, &mut gw[..20]), Err(Refusal::SlotCount));
+        assert_eq!(batch_file_fault(&file), None);
+    }
+
+    #[test]
+    fn a_files_fault_has_its_place() {
+        // three cards of two rows, of which the first is read
+        let mut words = vec![2, 2, 3, 40, 124, 148, 172, 184, 184, 208];
+        words.extend(Call::good().w.iter().map(|x| x.to_bits()));
+        let three = 3f32.to_bits();
+        words.extend([[0; 6], [three; 6]].concat());
+        words.extend([2; 3]);
+        words.extend([0; 12]);
+        assert_eq!(batch_file_fault(&bytes(&words)), None);
+        words[31 + 6 + 2] = 7f32.to_bits();
+        let place = Some(Place { column: 2, row: 0 });
+        assert_eq!(batch_file_fault(&bytes(&words)), Some(Fault { refusal: Refusal::Rating, place }));
+        assert_eq!(batch_file(&bytes(&words), &mut [0.0; WEIGHTS]), Err(Refusal::Rating));
     }
 
     #[test]

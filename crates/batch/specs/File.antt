@@ -10,6 +10,9 @@ use Rattle.batch.specs.Words.{words, singles}
 use Rattle.batch.specs.Header.{sectionsOf, wellFormed}
 use Rattle.batch.specs.declared.header.Header.{Header}
 use Rattle.checks.specs.Batch.{Prefixes, Cards, prefixesOf, cardsOf}
+use Rattle.checks.specs.Faults.{unplaced}
+use Rattle.checks.specs.Refusals.{prefixGradFault, cardGradFault}
+use Rattle.checks.specs.declared.fault.Fault.{Fault}
 use Rattle.analytic_v6.specs.Answers.{answer}
 use Rattle.analytic_v6.specs.declared.answers.Loss.{Loss}
 use Rattle.analytic_v6.specs.Prefixes.{batchLossAndGrad, batchSlots}
@@ -76,6 +79,16 @@ module _ (h : Header) (cells : List Float) (lens : List ℕ) where
   unfoldable pub callSlots : (gw : List Float) → List Float
   callSlots gw = cond (eqb (h .kind) 1) (prefixSlotsIn gw) (cardSlotsIn gw)
 
+  -- change request K7: the call's refusal with its place, where 21 slots are lent
+  unfoldable pub prefixFaultIn : Fault
+  prefixFaultIn = prefixGradFault weightsIn prefixesIn 21 ROWS
+
+  unfoldable pub cardFaultIn : Fault
+  cardFaultIn = cardGradFault weightsIn cardsIn 21 ROWS ROWS
+
+  unfoldable pub callFault : Fault
+  callFault = cond (eqb (h .kind) 1) prefixFaultIn cardFaultIn
+
 module _ (file : List ℕ) where
   -- 'all other entries single bits'
   abbrev pub cellsOf : List Float
@@ -91,3 +104,6 @@ module _ (file : List ℕ) where
 
   unfoldable pub fileSlots : (gw : List Float) → List Float
   fileSlots gw = cond (wellFormed file) (callSlots (sectionsOf file) cellsOf lengthsOf gw) gw
+
+  unfoldable pub fileFault : Fault
+  fileFault = cond (wellFormed file) (callFault (sectionsOf file) cellsOf lengthsOf) (unplaced 11)

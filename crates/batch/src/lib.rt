@@ -1,4 +1,5 @@
 // A batch file, run as the one call that it holds.
+pub mod fault;
 pub mod header;
 mod layout;
 mod steps;
@@ -14,12 +15,10 @@ use crate::header::Header;
 use crate::layout::header_of;
 use crate::steps::cards_over_steps;
 use crate::steps::prefixes_over_steps;
+use crate::words::WORDS;
 use crate::words::fill_singles;
 use crate::words::fill_words;
 use analytic_v6::answers::Loss;
-
-// Words in the longest file.
-const WORDS: usize = 16384;
 
 fn run_prefixes(h: Header, cells: &[f32], lens: &[u32], gw: &mut [f64]) -> Loss
     requires { ⌜ inOrder h (length (now cells)) ⌝ }

@@ -10,7 +10,7 @@ use analytic_v6::cards::grad::card_loss_and_grad;
 use analytic_v6::prefixes::grad::batch_loss_and_grad;
 use columns::step_records::no_step;
 
-const ROWS: usize = 512;
+pub const ROWS: usize = 512;
 
 pub fn prefixes_over_steps(
     w: &[f32],

@@ -5,6 +5,9 @@ ghost use lib.Ieee.{binary32, ofBits, nanBits};
 ghost use lib.ListN.{length};
 ghost use Rattle.batch.specs.Words.{wordAt, words, singles};
 
+// Words in the longest file.
+pub const WORDS: usize = 16384;
+
 fn is_nan_pattern(b: u32) -> bool
     ensures { λ r. ⌜ r ≡ nanBits binary32 b ⌝ }
 {

@@ -1,11 +1,16 @@
 // Reads a batch file on standard input and prints the bits of its loss and of the 21 gradient slots, each started at +0.0: 22
-// lines of 16 hexadecimal digits; or `refused N`.
+// lines of 16 hexadecimal digits; or `refused N`, and where a bad cell is the reason, its column and row on standard error, for
+// the script ./batchgrad, which tells them in words.
+use batch::fault::file_fault;
 use batch::run_file;
+use checks::fault::Fault;
 use soft::units::pattern;
 
 const STDIN: i32 = 0;
 
 const STDOUT: i32 = 1;
+
+const STDERR: i32 = 2;
 
 // One byte more than the longest file has, so that a longer one is seen to be.
 const ROOM: usize = 65537;
@@ -29,11 +34,26 @@ fn print_refusal(n: u32) {
     io::write_all(STDOUT, b"\n");
 }
 
+// Both counted from 0. A number below 6 or above 9 has no place.
+fn print_place(f: Fault) {
+    if f.refusal < 6 {
+        return;
+    }
+    if f.refusal > 9 {
+        return;
+    }
+    io::print_decimal(STDERR, f.column as u64);
+    io::write_all(STDERR, b" ");
+    io::print_decimal(STDERR, f.row as u64);
+    io::write_all(STDERR, b"\n");
+}
+
 fn run(file: &[u8]) {
     let mut gw = [0.0f64; 21];
     let q = run_file(file, &mut gw);
     if q.refusal != 0 {
         print_refusal(q.refusal);
+        print_place(file_fault(file));
         return;
     }
     print_bits(q.loss);

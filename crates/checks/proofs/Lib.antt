@@ -1,2 +1,3 @@
 pub mod Longer
 pub mod Orders
+pub mod Placed

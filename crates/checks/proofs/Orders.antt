@@ -26,13 +26,13 @@ passed : (good : Bool) (n b : ℕ) → good ≡ true → first (check true good 
 unfolding check
 passed good n b e = rw e (first-none 0 b refl)
 
-three : _≡_ {A = ℕ} 3 0 → ⊥
+pub three : _≡_ {A = ℕ} 3 0 → ⊥
 three e = subst (λ (n : ℕ). T (eqb n 3)) e tt
 
-four : _≡_ {A = ℕ} 4 0 → ⊥
+pub four : _≡_ {A = ℕ} 4 0 → ⊥
 four e = subst (λ (n : ℕ). T (eqb n 4)) e tt
 
-five : _≡_ {A = ℕ} 5 0 → ⊥
+pub five : _≡_ {A = ℕ} 5 0 → ⊥
 five e = subst (λ (n : ℕ). T (eqb n 5)) e tt
 
 module _ (w : List Float) (n : ℕ) (weights : n ≡ weightsRefusal w) where

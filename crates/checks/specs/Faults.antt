@@ -14,6 +14,10 @@ use Rattle.checks.specs.declared.fault.Fault.{Fault}
 unfoldable pub noFault : Fault
 noFault = record { refusal = 0; column = 0; row = 0 }
 
+-- a refusal that no cell gives
+unfoldable pub unplaced : (n : ℕ) → Fault
+unplaced n = record { refusal = n; column = 0; row = 0 }
+
 -- none where the number is 0
 unfoldable pub faultAt : (n column row : ℕ) → Fault
 unfolding noFault

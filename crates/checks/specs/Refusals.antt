@@ -8,8 +8,9 @@ use lib.ListN.{length}
 use Rattle.checks.specs.Reads.{check, first}
 use Rattle.domain.specs.Weights.{weightsRefusal}
 use Rattle.checks.specs.Batch.{Table, Prefixes, Cards}
-use Rattle.checks.specs.Faults.{prefixFault, cardFault}
+use Rattle.checks.specs.Faults.{unplaced, orElse, prefixFault, cardFault}
 use Rattle.checks.specs.Sizes.{longestDef, prefixSized, cardSized}
+use Rattle.checks.specs.declared.fault.Fault.{Fault}
 
 -- 'a loss-only entry .. lends no records, step gradients or slots, so it never gives 4 or 5'
 unfoldable pub lossRefusal : (w : List Float) (sized : Bool) (fault : ℕ) → ℕ
@@ -47,3 +48,20 @@ cardLossRefusal w x = lossRefusal w (cardsSized x) (cardFault x .refusal)
 unfoldable pub cardGradRefusal : (w : List Float) (x : Cards) (slots records step-grads : ℕ) → ℕ
 cardGradRefusal w x slots records step-grads =
     gradRefusal w (eqb slots 21) (cardsSized x) (leb (longestOf (x .table)) records && leb (longestOf (x .table)) step-grads) (cardFault x .refusal)
+
+-- ---- change request K7: the same call's refusal with its place. It 'names the first offending column and row in 01's order' where a cell is what it is
+-- refused for; the numbers 1 to 5, which come before any cell's, have no place
+unfoldable pub prefixLossFault : (w : List Float) (x : Prefixes) → Fault
+prefixLossFault w x = orElse (unplaced (lossRefusal w (prefixesSized x) 0)) (prefixFault x)
+
+unfoldable pub prefixGradFault : (w : List Float) (x : Prefixes) (slots records : ℕ) → Fault
+prefixGradFault w x slots records =
+    orElse (unplaced (gradRefusal w (eqb slots 21) (prefixesSized x) (leb (longestOf (x .table)) records) 0)) (prefixFault x)
+
+unfoldable pub cardLossFault : (w : List Float) (x : Cards) → Fault
+cardLossFault w x = orElse (unplaced (lossRefusal w (cardsSized x) 0)) (cardFault x)
+
+unfoldable pub cardGradFault : (w : List Float) (x : Cards) (slots records step-grads : ℕ) → Fault
+cardGradFault w x slots records step-grads =
+    let room = leb (longestOf (x .table)) records && leb (longestOf (x .table)) step-grads in
+    orElse (unplaced (gradRefusal w (eqb slots 21) (cardsSized x) room 0)) (cardFault x)

@@ -1,4 +1,4 @@
 // The first fault among the cells that a loss call reads, in document 01's order, with its place.
 pub mod card;
-mod found;
+pub mod found;
 pub mod prefix;

@@ -3,6 +3,8 @@
 pub mod align;
 pub mod fault;
 mod faults;
+// Why a loss call is refused, and where: the twin of each loss entry.
+pub mod places;
 pub mod reads;
 pub mod refusals;
 mod sizes;

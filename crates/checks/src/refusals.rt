@@ -1,16 +1,12 @@
-// The number that a loss call is refused with, 0 where it is accepted. All is checked before the first write: sizes, then the
-// cells that the call reads. A call for the loss alone is lent neither slots nor room, so that 5 and 4 are not asked of it.
+// The number that a loss call is refused with, 0 where it is accepted: that of its fault.
 ghost use mathlib.Core.Path.{_≡_};
 ghost use Rattle.checks.specs.Batch.{prefixesIn, cardsIn};
 ghost use Rattle.checks.specs.Refusals.{prefixLossRefusal, prefixGradRefusal, cardLossRefusal, cardGradRefusal};
 use crate::align::Align;
-use crate::faults::card::card_fault;
-use crate::faults::prefix::prefix_fault;
-use crate::sizes::card_sized;
-use crate::sizes::longest;
-use crate::sizes::prefix_sized;
-use domain::weights::weights_refusal;
-use soft::flags::both;
+use crate::places::batch_loss_and_grad_fault;
+use crate::places::batch_loss_fault;
+use crate::places::card_loss_and_grad_fault;
+use crate::places::card_loss_fault;
 
 // 1, 2, 5, 3, 4, then the first fault. The last arguments count what is lent.
 pub fn prefix_grad_refusal(
@@ -31,32 +27,9 @@ pub fn prefix_grad_refusal(
         r ≡ prefixGradRefusal (now (w .entry)) (prefixesIn align (now («t_hist» .entry)) (now («r_hist» .entry)) «seq_len» batch
         (now («seq_lens» .entry)) (now («delta_ts» .entry)) (now (labels .entry)) (now (weights .entry))) slots records ⌝ }
 {
-    let n = weights_refusal(w);
-    if n != 0 {
-        return n;
-    }
-    if slots != 21 {
-        return 5;
-    }
-    let sized = prefix_sized(
-        t_hist.len(),
-        r_hist.len(),
-        seq_len,
-        batch,
-        seq_lens.len(),
-        delta_ts.len(),
-        labels.len(),
-        weights.len(),
-    );
-    if !sized {
-        return 3;
-    }
-    let long = longest(seq_lens, seq_len, batch) as usize;
-    if !(long <= records) {
-        return 4;
-    }
-    let f = prefix_fault(
+    let f = batch_loss_and_grad_fault(
         align,
+        w,
         t_hist,
         r_hist,
         seq_len,
@@ -65,6 +38,8 @@ pub fn prefix_grad_refusal(
         delta_ts,
         labels,
         weights,
+        slots,
+        records,
     );
     f.refusal
 }
@@ -86,25 +61,9 @@ pub fn prefix_loss_refusal(
         r ≡ prefixLossRefusal (now (w .entry)) (prefixesIn align (now («t_hist» .entry)) (now («r_hist» .entry)) «seq_len» batch
         (now («seq_lens» .entry)) (now («delta_ts» .entry)) (now (labels .entry)) (now (weights .entry))) ⌝ }
 {
-    let n = weights_refusal(w);
-    if n != 0 {
-        return n;
-    }
-    let sized = prefix_sized(
-        t_hist.len(),
-        r_hist.len(),
-        seq_len,
-        batch,
-        seq_lens.len(),
-        delta_ts.len(),
-        labels.len(),
-        weights.len(),
-    );
-    if !sized {
-        return 3;
-    }
-    let f = prefix_fault(
+    let f = batch_loss_fault(
         align,
+        w,
         t_hist,
         r_hist,
         seq_len,
@@ -136,31 +95,9 @@ pub fn card_grad_refusal(
         r ≡ cardGradRefusal (now (w .entry)) (cardsIn align (now («t_hist» .entry)) (now («r_hist» .entry)) «seq_len» batch
         (now («seq_lens» .entry)) (now (labels .entry)) (now (weights .entry))) slots records «step_grads» ⌝ }
 {
-    let n = weights_refusal(w);
-    if n != 0 {
-        return n;
-    }
-    if slots != 21 {
-        return 5;
-    }
-    let sized = card_sized(
-        t_hist.len(),
-        r_hist.len(),
-        seq_len,
-        batch,
-        seq_lens.len(),
-        labels.len(),
-        weights.len(),
-    );
-    if !sized {
-        return 3;
-    }
-    let long = longest(seq_lens, seq_len, batch) as usize;
-    if !both(long <= records, long <= step_grads) {
-        return 4;
-    }
-    let f = card_fault(
+    let f = card_loss_and_grad_fault(
         align,
+        w,
         t_hist,
         r_hist,
         seq_len,
@@ -168,6 +105,9 @@ pub fn card_grad_refusal(
         seq_lens,
         labels,
         weights,
+        slots,
+        records,
+        step_grads,
     );
     f.refusal
 }
@@ -188,24 +128,9 @@ pub fn card_loss_refusal(
         r ≡ cardLossRefusal (now (w .entry)) (cardsIn align (now («t_hist» .entry)) (now («r_hist» .entry)) «seq_len» batch
         (now («seq_lens» .entry)) (now (labels .entry)) (now (weights .entry))) ⌝ }
 {
-    let n = weights_refusal(w);
-    if n != 0 {
-        return n;
-    }
-    let sized = card_sized(
-        t_hist.len(),
-        r_hist.len(),
-        seq_len,
-        batch,
-        seq_lens.len(),
-        labels.len(),
-        weights.len(),
-    );
-    if !sized {
-        return 3;
-    }
-    let f = card_fault(
+    let f = card_loss_fault(
         align,
+        w,
         t_hist,
         r_hist,
         seq_len,

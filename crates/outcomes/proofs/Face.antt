@@ -38,6 +38,12 @@ use Rattle.fsrs6.proofs.cards.fsrs_card_loss
 use Rattle.fsrs6.proofs.cards.fsrs_card_loss_in
 use Rattle.fsrs6.proofs.penalty.fsrs_l2_penalty
 use Rattle.fsrs6.proofs.file.fsrs_batch_file
+use Rattle.fsrs6.proofs.file.fsrs_batch_file_fault
+use Rattle.fsrs6.proofs.why.fsrs_explain_step
+use Rattle.fsrs6.proofs.why.fsrs_batch_loss_fault
+use Rattle.fsrs6.proofs.why.fsrs_batch_loss_and_grad_fault
+use Rattle.fsrs6.proofs.why.fsrs_card_loss_fault
+use Rattle.fsrs6.proofs.why.fsrs_card_loss_and_grad_fault
 
 -- fsrs6::arithmetic
 pub one-fsrs-exp-f32 : One fsrs_exp_f32.Kinds.ps fsrs_exp_f32.Kinds.r fsrs_exp_f32.Reads.Post
@@ -158,3 +164,22 @@ one-fsrs-l2-penalty = one (λ κs a o c. c .0 ⨾ none ⨾ none ⨾ none ⨾ non
 -- fsrs6::file
 pub one-fsrs-batch-file : One fsrs_batch_file.Kinds.ps fsrs_batch_file.Kinds.r fsrs_batch_file.Reads.Post
 one-fsrs-batch-file = one (λ κs a o c. c .0 .0 ⨾ none ⨾ c .1 ⨾ c .0 .1 ⨾ end)
+
+pub one-fsrs-batch-file-fault : One fsrs_batch_file_fault.Kinds.ps fsrs_batch_file_fault.Kinds.r fsrs_batch_file_fault.Reads.Post
+one-fsrs-batch-file-fault = one (λ κs a o c. c ⨾ none ⨾ end)
+
+-- fsrs6::why
+pub one-fsrs-explain-step : One fsrs_explain_step.Kinds.ps fsrs_explain_step.Kinds.r fsrs_explain_step.Reads.Post
+one-fsrs-explain-step = one (λ κs a o c. c ⨾ none ⨾ none ⨾ none ⨾ none ⨾ none ⨾ none ⨾ end)
+
+pub one-fsrs-batch-loss-fault : One fsrs_batch_loss_fault.Kinds.ps fsrs_batch_loss_fault.Kinds.r fsrs_batch_loss_fault.Reads.Post
+one-fsrs-batch-loss-fault = one (λ κs a o c. c ⨾ none ⨾ none ⨾ none ⨾ none ⨾ none ⨾ none ⨾ none ⨾ none ⨾ none ⨾ none ⨾ end)
+
+pub one-fsrs-batch-loss-and-grad-fault : One fsrs_batch_loss_and_grad_fault.Kinds.ps fsrs_batch_loss_and_grad_fault.Kinds.r fsrs_batch_loss_and_grad_fault.Reads.Post
+one-fsrs-batch-loss-and-grad-fault = one (λ κs a o c. c ⨾ none ⨾ none ⨾ none ⨾ none ⨾ none ⨾ none ⨾ none ⨾ none ⨾ none ⨾ none ⨾ none ⨾ none ⨾ end)
+
+pub one-fsrs-card-loss-fault : One fsrs_card_loss_fault.Kinds.ps fsrs_card_loss_fault.Kinds.r fsrs_card_loss_fault.Reads.Post
+one-fsrs-card-loss-fault = one (λ κs a o c. c ⨾ none ⨾ none ⨾ none ⨾ none ⨾ none ⨾ none ⨾ none ⨾ none ⨾ none ⨾ end)
+
+pub one-fsrs-card-loss-and-grad-fault : One fsrs_card_loss_and_grad_fault.Kinds.ps fsrs_card_loss_and_grad_fault.Kinds.r fsrs_card_loss_and_grad_fault.Reads.Post
+one-fsrs-card-loss-and-grad-fault = one (λ κs a o c. c ⨾ none ⨾ none ⨾ none ⨾ none ⨾ none ⨾ none ⨾ none ⨾ none ⨾ none ⨾ none ⨾ none ⨾ none ⨾ end)

@@ -16,6 +16,10 @@ use Rattle.checks.proofs.tables.read_f64
 use Rattle.checks.proofs.tables.write_f64
 use Rattle.checks.proofs.tables.cut_length
 use Rattle.checks.proofs.view.cell_at
+use Rattle.checks.proofs.places.batch_loss_and_grad_fault
+use Rattle.checks.proofs.places.batch_loss_fault
+use Rattle.checks.proofs.places.card_loss_and_grad_fault
+use Rattle.checks.proofs.places.card_loss_fault
 use Rattle.checks.proofs.refusals.card_grad_refusal
 use Rattle.checks.proofs.refusals.card_loss_refusal
 use Rattle.checks.proofs.refusals.prefix_grad_refusal
@@ -41,6 +45,7 @@ use Rattle.analytic_v6.proofs.cards.grad_columns.card_loss_and_grad_columns_in
 use Rattle.analytic_v6.proofs.cards.loss.card_loss
 use Rattle.analytic_v6.proofs.cards.loss.card_loss_in
 use Rattle.training_v7.proofs.penalty.l2_penalty_value_and_grad
+use Rattle.batch.proofs.fault.file_fault
 use Rattle.batch.proofs.run_file
 
 -- soft::flags
@@ -92,6 +97,19 @@ one-cut-length = one (λ κs a o c. c ⨾ none ⨾ none ⨾ none ⨾ end)
 -- checks::view
 pub one-cell-at : One cell_at.Kinds.ps cell_at.Kinds.r cell_at.Reads.Post
 one-cell-at = one (λ κs a o c. c ⨾ none ⨾ none ⨾ none ⨾ none ⨾ end)
+
+-- checks::places
+pub one-batch-loss-and-grad-fault : One batch_loss_and_grad_fault.Kinds.ps batch_loss_and_grad_fault.Kinds.r batch_loss_and_grad_fault.Reads.Post
+one-batch-loss-and-grad-fault = one (λ κs a o c. c ⨾ none ⨾ none ⨾ none ⨾ none ⨾ none ⨾ none ⨾ none ⨾ none ⨾ none ⨾ none ⨾ none ⨾ none ⨾ end)
+
+pub one-batch-loss-fault : One batch_loss_fault.Kinds.ps batch_loss_fault.Kinds.r batch_loss_fault.Reads.Post
+one-batch-loss-fault = one (λ κs a o c. c ⨾ none ⨾ none ⨾ none ⨾ none ⨾ none ⨾ none ⨾ none ⨾ none ⨾ none ⨾ none ⨾ end)
+
+pub one-card-loss-and-grad-fault : One card_loss_and_grad_fault.Kinds.ps card_loss_and_grad_fault.Kinds.r card_loss_and_grad_fault.Reads.Post
+one-card-loss-and-grad-fault = one (λ κs a o c. c ⨾ none ⨾ none ⨾ none ⨾ none ⨾ none ⨾ none ⨾ none ⨾ none ⨾ none ⨾ none ⨾ none ⨾ none ⨾ end)
+
+pub one-card-loss-fault : One card_loss_fault.Kinds.ps card_loss_fault.Kinds.r card_loss_fault.Reads.Post
+one-card-loss-fault = one (λ κs a o c. c ⨾ none ⨾ none ⨾ none ⨾ none ⨾ none ⨾ none ⨾ none ⨾ none ⨾ none ⨾ end)
 
 -- checks::refusals
 pub one-card-grad-refusal : One card_grad_refusal.Kinds.ps card_grad_refusal.Kinds.r card_grad_refusal.Reads.Post
@@ -184,3 +202,7 @@ one-l2-penalty-value-and-grad = one (λ κs a o c. c .0 ⨾ none ⨾ none ⨾ no
 -- batch
 pub one-run-file : One run_file.Kinds.ps run_file.Kinds.r run_file.Reads.Post
 one-run-file = one (λ κs a o c. c .0 ⨾ none ⨾ c .1 ⨾ end)
+
+-- batch::fault
+pub one-file-fault : One file_fault.Kinds.ps file_fault.Kinds.r file_fault.Reads.Post
+one-file-fault = one (λ κs a o c. c ⨾ none ⨾ end)

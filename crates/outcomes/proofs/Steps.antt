@@ -1,4 +1,4 @@
--- One outcome: the training step and its reverse. A line for each function: its answer, then each parameter in turn. Assumes nothing.
+-- One outcome: the training step, its reverse and its explanation. A line for each function: its answer, then each parameter in turn. Assumes nothing.
 use Rattle.outcomes.specs.Outcome.{One, one}
 use Rattle.outcomes.proofs.Tuples.{_⨾_, none, end}
 use Rattle.forward.proofs.parameters.init_difficulty
@@ -13,6 +13,9 @@ use Rattle.backward.proofs.curve.curve_backward
 use Rattle.backward.proofs.step.step_backward
 use Rattle.analytic_v6.proofs.step.training_step
 use Rattle.analytic_v6.proofs.step.training_step_backward
+use Rattle.explain.proofs.reasons.held_number
+use Rattle.explain.proofs.reasons.reason_number
+use Rattle.explain.proofs.step.explain_step
 
 -- forward::parameters
 pub one-init-difficulty : One init_difficulty.Kinds.ps init_difficulty.Kinds.r init_difficulty.Reads.Post
@@ -56,3 +59,14 @@ one-training-step = one (λ κs a o c. c ⨾ none ⨾ none ⨾ none ⨾ none ⨾
 
 pub one-training-step-backward : One training_step_backward.Kinds.ps training_step_backward.Kinds.r training_step_backward.Reads.Post
 one-training-step-backward = one (λ κs a o c. c .0 ⨾ none ⨾ none ⨾ none ⨾ none ⨾ none ⨾ none ⨾ none ⨾ none ⨾ c .1 ⨾ end)
+
+-- explain::reasons
+pub one-held-number : One held_number.Kinds.ps held_number.Kinds.r held_number.Reads.Post
+one-held-number = one (λ κs a o c. c ⨾ none ⨾ end)
+
+pub one-reason-number : One reason_number.Kinds.ps reason_number.Kinds.r reason_number.Reads.Post
+one-reason-number = one (λ κs a o c. c ⨾ none ⨾ end)
+
+-- explain::step
+pub one-explain-step : One explain_step.Kinds.ps explain_step.Kinds.r explain_step.Reads.Post
+one-explain-step = one (λ κs a o c. c ⨾ none ⨾ none ⨾ none ⨾ none ⨾ none ⨾ end)

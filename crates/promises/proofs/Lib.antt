@@ -1,14 +1,18 @@
 -- Why the promises hold.
+pub mod placing
 pub mod reading
+pub mod reasoning
 pub mod shifting
 pub mod stepping
 pub mod Finite
+pub mod FirstFault
 pub mod Frozen
 pub mod Aligned
 pub mod Carried
 pub mod Imported
 pub mod Layouts
 pub mod Pulled
+pub mod Reasoned
 pub mod Rows
 pub mod Weightless
 pub mod Twelve

@@ -2,11 +2,13 @@ pub mod Aligned
 pub mod CallReads
 pub mod Carried
 pub mod Finite
+pub mod FirstFault
 pub mod Frozen
 pub mod Imported
 pub mod Layouts
 pub mod Pulled
 pub mod LossCalls
 pub mod Promises
+pub mod Reasoned
 pub mod Rows
 pub mod Twelve

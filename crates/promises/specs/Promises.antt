@@ -7,10 +7,12 @@ use Rattle.promises.specs.Aligned.{Aligned}
 use Rattle.promises.specs.Carried.{Carried}
 use Rattle.promises.specs.Finite.{NoSilentNaNs}
 use Rattle.promises.specs.Twelve.{Twelve}
+use Rattle.promises.specs.FirstFault.{FirstFault}
 use Rattle.promises.specs.Frozen.{Demand3}
 use Rattle.promises.specs.Imported.{Imported}
 use Rattle.promises.specs.Layouts.{TwoLayouts}
 use Rattle.promises.specs.Pulled.{Pulled}
+use Rattle.promises.specs.Reasoned.{Reasoned}
 use Rattle.promises.specs.Rows.{Rows}
 
 pub record Promises : Type 0 where
@@ -36,3 +38,6 @@ pub record Promises : Type 0 where
   pub kernel-calls : Ties
   -- change request K9: rows that an app has worked out for itself (Rows.antt)
   pub exported-rows : Rows
+  -- change request K7: why a card moved (Reasoned.antt), and why a loss call is refused and where (FirstFault.antt)
+  pub why-it-moved : Reasoned
+  pub first-at-fault : FirstFault

@@ -1,7 +1,7 @@
 // A line's call over the weights and the starting slots that lines above it set, and over records and step
 // gradients of its own. After its slices it has seven words: how many records are lent and the pattern of
 // the first, the same of the step gradients, and the answer.
-mod calls;
+pub mod calls;
 
 use crate::digests::digest;
 use crate::losses::calls::Places;
@@ -16,7 +16,7 @@ use crate::slices::set_doubles;
 use crate::slices::word_at;
 use analytic_v6::answers::Loss;
 
-fn places(k: &[u64; 640]) -> Places {
+pub fn places(k: &[u64; 640]) -> Places {
     let days = 2;
     let ratings = after(k, days);
     let lengths = after(k, ratings);
@@ -36,7 +36,7 @@ fn places(k: &[u64; 640]) -> Places {
 }
 
 // A word after the slices.
-fn rest_at(k: &[u64; 640], p: Places, i: usize) -> u64 {
+pub fn rest_at(k: &[u64; 640], p: Places, i: usize) -> u64 {
     word_at(k, std::num::wrapping_add_usize(p.rest, i))
 }
 

@@ -4,6 +4,7 @@
 mod arithmetic;
 mod counts;
 mod digests;
+mod explained;
 mod line;
 mod losses;
 mod patterns;
@@ -32,6 +33,7 @@ enum Kind {
     Step,
     Losses,
     Penalty,
+    Explained,
 }
 
 // No list has so many bytes, and no line more words.
@@ -50,6 +52,7 @@ fn is_call(kind: Kind, letter: u8, k: &[u64; 640], n: usize) -> bool {
         Kind::Step => steps::is_call(letter, k, n),
         Kind::Losses => losses::is_call(k, n),
         Kind::Penalty => penalty::is_call(k, n),
+        Kind::Explained => explained::is_call(letter, k, n),
     }
 }
 
@@ -68,6 +71,7 @@ fn call_passes(
         Kind::Step => steps::passes(letter, k, w, slots),
         Kind::Losses => losses::passes(letter, k, w, slots),
         Kind::Penalty => penalty::passes(k, w),
+        Kind::Explained => explained::passes(letter, k, w),
     }
 }
 
@@ -211,5 +215,11 @@ fn main() {
         b"penalty",
         b"P",
         b"l2_penalty_value_and_grad malformed ",
+    );
+    run_list(
+        Kind::Explained,
+        b"explain",
+        b"E0123",
+        b"explain_step batch_loss_and_grad_fault batch_loss_fault card_loss_and_grad_fault card_loss_fault malformed ",
     );
 }

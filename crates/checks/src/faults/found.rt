@@ -1,6 +1,6 @@
 // A fault that was found, or none.
 ghost use mathlib.Core.Path.{_≡_};
-ghost use Rattle.checks.specs.Faults.{noFault, faultAt};
+ghost use Rattle.checks.specs.Faults.{noFault, unplaced, faultAt};
 use crate::fault::Fault;
 
 pub fn no_fault() -> Fault
@@ -8,6 +8,17 @@ pub fn no_fault() -> Fault
 {
     Fault {
         refusal: 0,
+        column: 0,
+        row: 0,
+    }
+}
+
+// A refusal that no cell gives.
+pub fn unplaced(refusal: u32) -> Fault
+    ensures { λ r. ⌜ r ≡ unplaced refusal ⌝ }
+{
+    Fault {
+        refusal,
         column: 0,
         row: 0,
     }

@@ -27,7 +27,7 @@ pub struct Places {
     pub rest: usize,
 }
 
-fn first_lengths(xs: &[u32], n: usize) -> &[u32] {
+pub fn first_lengths(xs: &[u32], n: usize) -> &[u32] {
     if n < xs.len() {
         return &xs[0..n];
     }

@@ -1,83 +1,15 @@
-use mathlib.Core.Path.{sym, _∙_}
-use borrow.Author.Tests.{eq-eqb, ne-eqb, not-true, not-false}
-use Rattle.checks.proofs.Orders.{grad-weights, grad-slots, grad-sizes, grad-room, grad-fault}
-use Rattle.checks.specs.Refusals.{cardGradRefusal}
+use mathlib.Core.Path.{ap, _∙_}
+use Rattle.checks.proofs.Placed.{card-grad-number}
+use Rattle.checks.specs.declared.fault.Fault.{Fault}
 use borrow.Author.Needs.{needs}
 use Rattle.checks.proofs.refusals.card_grad_refusal.Statement.{statement}
 use Rattle.checks.proofs.refusals.card_grad_refusal.Tie as tie
 
-weights-refusal-requires : tie.Need-weights-refusal-requires
-weights-refusal-requires c κs = search needs
+card-loss-and-grad-fault-requires : tie.Need-card-loss-and-grad-fault-requires
+card-loss-and-grad-fault-requires c κs = search needs
 
 returns : tie.Need-returns
-unfolding cardGradRefusal
-returns c = grad-weights _ _ (c .before .weights-refusal .ensures) _ _ _ _ (c .if1 .taken)
-
-returns-2 : tie.Need-returns-2
-unfolding cardGradRefusal
-returns-2 c = grad-slots _ _ (c .before .before .weights-refusal .ensures) (c .before .if1 .left) _ _ _ _ (ne-eqb _ 21 (c .if2 .taken))
-
-card-sized-requires : tie.Need-card-sized-requires
-card-sized-requires c κs = search needs
-
-returns-3 : tie.Need-returns-3
-unfolding cardGradRefusal
-returns-3 c =
-    let at-if2 = c .before .before in
-    let at-if1 = at-if2 .before in
-    let at-weights-refusal = at-if1 .before in
-    grad-sizes _ _ (at-weights-refusal .weights-refusal .ensures) (at-if1 .if1 .left) _ (eq-eqb _ 21 (at-if2 .if2 .left)) _ _ _ (sym (c .before .card-sized .ensures) ∙ not-true _ (c .if3 .taken))
-
-longest-requires : tie.Need-longest-requires
-longest-requires c κs = search needs
-
-cast-long : tie.Need-cast-long
-cast-long c = search needs
-
-both-requires : tie.Need-both-requires
-both-requires c κs = search needs
-
-returns-4 : tie.Need-returns-4
-unfolding cardGradRefusal
-returns-4 c =
-    let at-longest = c .before .before in
-    let at-if3 = at-longest .before in
-    let at-card-sized = at-if3 .before in
-    let at-if2 = at-card-sized .before in
-    let at-if1 = at-if2 .before in
-    let at-weights-refusal = at-if1 .before in
-    grad-room _ _ (at-weights-refusal .weights-refusal .ensures) (at-if1 .if1 .left) _ (eq-eqb _ 21 (at-if2 .if2 .left)) _ (sym (at-card-sized .card-sized .ensures) ∙ not-false _ (at-if3 .if3 .left)) _ _
-    (rw (← at-longest .longest .ensures) (sym (c .before .both .ensures) ∙ not-true _ (c .if4 .taken)))
-
-card-fault-requires : tie.Need-card-fault-requires
-card-fault-requires c κs = search needs
-
-returns-5 : tie.Need-returns-5
-unfolding cardGradRefusal
-returns-5 c =
-    let at-both = c .before .before in
-    let at-longest = at-both .before in
-    let at-if3 = at-longest .before in
-    let at-card-sized = at-if3 .before in
-    let at-if2 = at-card-sized .before in
-    let at-if1 = at-if2 .before in
-    let at-weights-refusal = at-if1 .before in
-    rw (c .card-fault .ensures)
-    (grad-fault _ _ (at-weights-refusal .weights-refusal .ensures) (at-if1 .if1 .left) _ (eq-eqb _ 21 (at-if2 .if2 .left)) _ (sym (at-card-sized .card-sized .ensures) ∙ not-false _ (at-if3 .if3 .left)) _ _
-    (rw (← at-longest .longest .ensures) (sym (at-both .both .ensures) ∙ not-false _ (c .before .if4 .left))))
+returns c = ap (λ (f : Fault). f .refusal) (c .card-loss-and-grad-fault .ensures) ∙ card-grad-number _ _ _ _ _
 
 pub card-grad-refusal-spec : {M : Type 1} → statement M
-card-grad-refusal-spec =
-    tie.close
-    (tie.spec
-    weights-refusal-requires
-    returns
-    returns-2
-    card-sized-requires
-    returns-3
-    longest-requires
-    cast-long
-    both-requires
-    returns-4
-    card-fault-requires
-    returns-5)
+card-grad-refusal-spec = tie.close (tie.spec card-loss-and-grad-fault-requires returns)

@@ -1,0 +1,4 @@
+-- Laws of the definitions.
+pub mod Branches
+pub mod Cases
+pub mod Explaining
