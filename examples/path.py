@@ -15,7 +15,7 @@ from array import array
 from html import escape
 from typing import NamedTuple
 
-from shared import ROOT, Wrong, run, shown
+from shared import ROOT, Wrong, keep, run, shown
 
 sys.path.insert(0, os.path.join(ROOT, "bindings", "python"))
 import fsrs6
@@ -359,11 +359,7 @@ def main(path, word, output, **options):
         drawn = page(name, number, path_of(w, kind, cards[number - 1]), w)
     except (fsrs6.Refusal, OSError) as error:
         raise Wrong(error) from None
-    try:
-        with open(output, "wb") as file:
-            file.write(drawn.encode())
-    except OSError as error:
-        raise Wrong("cannot write %s: %s" % (output, error.strerror)) from None
+    keep(drawn, output)
 
 
 if __name__ == "__main__":

@@ -38,6 +38,15 @@ def write(data):
         raise Wrong("cannot write: %s" % error.strerror) from None
 
 
+def keep(text, path):
+    """Writes a text to a file."""
+    try:
+        with open(path, "wb") as file:
+            file.write(text.encode())
+    except OSError as error:
+        raise Wrong("cannot write %s: %s" % (path, error.strerror)) from None
+
+
 def shown(word):
     """A word as a message shows it."""
     return ascii(word if len(word) <= 40 else word[:40] + "..")

@@ -1,5 +1,6 @@
-/* The scalar core of FSRS-6: kernels, formulas, the training step, the two losses and a pull toward the old weights, each
- * proved to be the definition that its crate's specs/ hold. `./lib` writes the archive, target/lib/libfsrs6.a, for x86-64.
+/* The scalar core of FSRS-6: kernels, formulas, the training step, the two losses, a pull toward the old weights and starting
+ * stabilities, each proved to be the definition that its crate's specs/ hold. `./lib` writes the archive,
+ * target/lib/libfsrs6.a, for x86-64.
  *
  * Every function but the kernels returns the number of its refusal, 0 where the call was accepted, and writes its answers
  * through the places lent to it; those that explain return a struct, whose first number it is, and write nothing. A refused
@@ -39,17 +40,17 @@ enum {
     FSRS_ACCEPTED = 0,
     FSRS_WEIGHT_COUNT = 1,   /* not 21 weights */
     FSRS_WEIGHT_BOX = 2,     /* a weight outside the box; in filling, also an entry that is not finite */
-    FSRS_SIZES = 3,          /* rows or columns over the limit, or an input slice too short */
+    FSRS_SIZES = 3,          /* rows or columns over the limit, or an input slice too short; of first recalls, not as long */
     FSRS_ROOM = 4,           /* too few records, or step gradients, for the longest column */
     FSRS_SLOT_COUNT = 5,     /* not 21 gradient slots */
     FSRS_RATING = 6,         /* a rating that is read is not 0, 1, 2, 3 or 4 */
-    FSRS_DAY = 7,            /* a day that is read is outside -100000..100000 */
-    FSRS_REVIEW = 8,         /* a review weight or label that is read is out of range */
+    FSRS_DAY = 7,            /* a day that is read is outside -100000..100000; of a first recall, not above 0 as well */
+    FSRS_REVIEW = 8,         /* a review weight or label that is read is out of range; a share or count of first recalls */
     FSRS_EMPTY_PREFIX = 9,   /* a prefix of length 0 */
     FSRS_KERNEL = 10,        /* a kernel's argument: shown as a NaN */
     FSRS_FILE = 11,          /* a malformed batch file */
     FSRS_FILLING_COUNT = 12, /* a weight set to fill has not 0, 17, 19 or 21 entries */
-    FSRS_SCALAR = 13,        /* an argument of a formula, of a single step or of the pull toward the old weights */
+    FSRS_SCALAR = 13,        /* an argument of a formula, of a single step or of the pull; a default stability */
     FSRS_IMPORT = 14,        /* a card from SM-2 gets no finite state, as by a retention not inside 0..1 */
     FSRS_EARLIER = 15        /* a review on an earlier day than the one on which the card was last seen */
 };
@@ -64,8 +65,8 @@ static inline const char *fsrs_refusal_text(uint32_t number) {
         "too few records or step gradients for the longest column",
         "not 21 gradient slots",
         "a rating is not 0, 1, 2, 3 or 4",
-        "a day is outside -100000..100000",
-        "a review weight or a label is out of range",
+        "a day is out of range",
+        "a review weight, a label, a share or a count is out of range",
         "a prefix has the length 0",
         "an argument is outside the kernel's domain",
         "the batch file is malformed",
@@ -84,7 +85,8 @@ enum {
     FSRS_MAX_COLUMNS = 512,
     FSRS_FILE_BYTES = 65536, /* the longest batch file */
     FSRS_FILE_ROWS = 512,
-    FSRS_MAX_DAY = 100000    /* the last day number */
+    FSRS_MAX_DAY = 100000,   /* the last day number */
+    FSRS_MAX_RECALLS = 4096  /* rows of fsrs_initial_stability */
 };
 /* The most that a batch size or a total of fsrs_l2_penalty is: 2^31, which no enum of C need hold. */
 #define FSRS_MAX_SIZE UINT64_C(2147483648)
@@ -421,6 +423,21 @@ fsrs_fault fsrs_card_loss_and_grad_fault(bool end, const float *w, size_t w_len,
 uint32_t fsrs_l2_penalty(const float *w, size_t w_len, const float *init_w, size_t init_w_len, uint64_t batch_size,
                          uint64_t total_size, double l2_weight, const float *params_stddev, size_t params_stddev_len,
                          float *slots, size_t slots_len, double *penalty);
+
+/* ---- a starting stability from first recalls (parameter_initialization.rs, initial_stability), for one first rating at a
+ * time: it can stand as the weight of that rating, 0 to 3. Row i says that of count[i] cards whose next review came delta_t[i]
+ * days after their first one the share recall[i] was recalled. Counts need not be whole, and days may come in any order.
+ *
+ * The answer is from 0.0001 to 100. It is where the cross entropy of the recalls and of the default weights' forgetting curve,
+ * and a sixteenth of the distance from default_stability, add up to the least, as the Rust's search finds it: a Newton search in
+ * double, kept inside a bracket, of at most 80 rounds, whose end is made a single. So few recalls leave the default as it is,
+ * and no rows give it as a single.
+ *
+ * Refusals 3: the three columns are not of one length, or have over 4096 rows; then 13: default_stability is not from 0.0001,
+ * which is the nearest single, to 100; then row by row 7: a day is not above 0 and at most 100000; 8: a share is not from 0 to 1,
+ * or a count not above 0 and at most 2^32. */
+uint32_t fsrs_initial_stability(const double *delta_t, size_t delta_t_len, const double *recall, size_t recall_len,
+                                const double *count, size_t count_len, double default_stability, float *stability);
 
 /* ---- a batch file, run as one call of its loss with the gradient, which is added to the 21 slots of gw. Its histories
  * begin at row 0. Refusal 11, then those of the loss. Records and step gradients are its own, with room for every file: it

@@ -1,5 +1,5 @@
-"""The scalar core of FSRS-6: kernels, formulas, the training step, the two losses and a pull toward the old weights, each proved to be
-its definition.
+"""The scalar core of FSRS-6: kernels, formulas, the training step, the two losses, a pull toward the old weights and starting
+stabilities, each proved to be its definition.
 
 These are functions over the shared library of `include/fsrs6.h`, one for each of its functions and under its name; a loss has one,
 and its batch tells the mode (`end`). ctypes is all that they need. A call answers, or raises the `Refusal` by which it was refused
@@ -41,12 +41,13 @@ else:
     Buffer = Any
 
 Singles = Union[Sequence[float], Buffer]
+Doubles = Union[Sequence[float], Buffer]
 Wholes = Union[Sequence[int], Buffer]
 Lent = Union[List[float], Buffer]  # what is written
 
 __all__ = [
     "load", "Refusal", "REFUSALS", "WEIGHTS", "RECORD", "MAX_ROWS", "MAX_COLUMNS", "FILE_BYTES", "FILE_ROWS",
-    "MAX_DAY", "MAX_SIZE",
+    "MAX_DAY", "MAX_RECALLS", "MAX_SIZE",
     "RECORD_STABILITY", "RECORD_DIFFICULTY", "RECORD_DAY", "RECORD_RATING", "RECORD_RETRIEVABILITY", "RECORD_PRE_STABILITY",
     "RECORD_PRE_DIFFICULTY", "RECORD_BRANCH", "RECORD_BRANCH_RAW", "RECORD_BRANCH_OTHER", "BRANCH_PADDING", "BRANCH_FIRST",
     "BRANCH_SAME_DAY", "BRANCH_SAME_DAY_ONE", "BRANCH_LAPSE", "BRANCH_LAPSE_FLOORED", "BRANCH_SUCCESS",
@@ -58,7 +59,7 @@ __all__ = [
     "stability_after_success", "stability_after_failure", "stability_short_term", "first_state", "next_state",
     "next_state_on", "check_row", "memory_state_from_sm2",
     "training_step", "training_step_backward", "explain_step", "record", "batch_loss", "batch_loss_and_grad", "card_loss", "card_loss_and_grad",
-    "batch_loss_fault", "batch_loss_and_grad_fault", "card_loss_fault", "card_loss_and_grad_fault", "l2_penalty",
+    "batch_loss_fault", "batch_loss_and_grad_fault", "card_loss_fault", "card_loss_and_grad_fault", "l2_penalty", "initial_stability",
     "batch_file", "batch_file_fault",
 ]
 
@@ -69,6 +70,7 @@ MAX_COLUMNS = 512
 FILE_BYTES = 65536  # the longest batch file
 FILE_ROWS = 512
 MAX_DAY = 100000  # the last day number
+MAX_RECALLS = 4096  # the most rows of initial_stability
 MAX_SIZE = 1 << 31  # the most that a batch size or a total of l2_penalty is
 
 # What a step's record holds, in this order, and the branch that a step took: as include/fsrs6.h has them.
@@ -91,8 +93,8 @@ REFUSALS = {
     4: ("Room", "too few records or step gradients for the longest column"),
     5: ("SlotCount", "not 21 gradient slots"),
     6: ("Rating", "a rating is not 0, 1, 2, 3 or 4"),
-    7: ("Day", "a day is outside -100000..100000"),
-    8: ("Review", "a review weight or a label is out of range"),
+    7: ("Day", "a day is out of range"),
+    8: ("Review", "a review weight, a label, a share or a count is out of range"),
     9: ("EmptyPrefix", "a prefix has the length 0"),
     10: ("Kernel", "an argument is outside the kernel's domain"),
     11: ("File", "the batch file is malformed"),
@@ -335,7 +337,7 @@ class Cards(NamedTuple):
     True
     >>> card_loss(w, behind_padding._replace(end=False))
     Traceback (most recent call last):
-    fsrs6.Refusal: a review weight or a label is out of range
+    fsrs6.Refusal: a review weight, a label, a share or a count is out of range
     """
 
     rows: int = 0
@@ -391,6 +393,7 @@ _CALLS = {
     "card_loss_fault": _TABLES + _REVIEWS + "> fault",
     "card_loss_and_grad_fault": _TABLES + _REVIEWS + _LENGTHS + "step_grads_len:n > fault",
     "l2_penalty": "w:[f] init_w:[f] batch_size:Q total_size:Q l2_weight:d params_stddev:[f] slots:&[f] > d",
+    "initial_stability": "delta_t:[d] recall:[d] count:[d] default_stability:d > f",
     "batch_file": "file:[B] gw:&[d] > d",
     "batch_file_fault": "file:[B] > fault",
 }
@@ -1114,7 +1117,7 @@ def batch_loss_fault(w: Singles, prefixes: Prefixes) -> Optional[Fault]:
     >>> batch_loss_fault(w, two)  # the scored review of the second
     Fault(number=7, place=Place(column=1, row=1))
     >>> print(batch_loss_fault(w, two))
-    column 1, row 1: a day is outside -100000..100000
+    column 1, row 1: a day is out of range
     >>> batch_loss_fault(w, two._replace(weights=[1, 0])) is None  # of weight 0, and so unread
     True
     """
@@ -1189,6 +1192,25 @@ def l2_penalty(
     (0.2, 0.0)
     """
     return _call("l2_penalty", w, init_w, batch_size, total_size, l2_weight, params_stddev, slots)[0]
+
+
+def initial_stability(delta_t: Doubles, recall: Doubles, count: Doubles, default_stability: float) -> float:
+    """A starting stability, from 0.0001 to 100, for one first rating: of `count[i]` cards whose next review came `delta_t[i]` days
+    after their first one the share `recall[i]` was recalled. It can stand as the weight of that rating, `w[rating - 1]`. Few
+    recalls leave the default as it is, and no rows give it as a single; counts need not be whole.
+
+    Refusals: Sizes where the columns are not of one length or have over MAX_RECALLS rows, then Scalar for a default outside 0.0001
+    (the nearest single) to 100, then row by row Day for a day that is not above 0 and at most 100000, and Review for a share
+    outside 0 to 1, or a count that is not above 0 and at most 2^32.
+
+    >>> w = check_and_fill_parameters([])
+    >>> days, recalled, cards = [1, 3, 7], [39 / 40, 19 / 20, 9 / 10], [40, 20, 10]  # rated 3 at first
+    >>> round(w[2], 2), round(initial_stability(days, recalled, cards, w[2]), 2)
+    (2.31, 5.54)
+    >>> initial_stability([], [], [], 2.5)
+    2.5
+    """
+    return _call("initial_stability", delta_t, recall, count, default_stability)[0]
 
 
 def batch_file(file: Wholes, gw: Lent) -> float:

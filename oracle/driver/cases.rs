@@ -194,6 +194,15 @@ pub struct Penalty {
     pub slots: Vec<f32>,
 }
 
+/// First recalls of one rating: three columns, and the default.
+#[derive(Clone)]
+pub struct Initial {
+    pub days: Vec<f64>,
+    pub shares: Vec<f64>,
+    pub counts: Vec<f64>,
+    pub default: f64,
+}
+
 #[derive(Clone)]
 pub enum Case {
     Loss(Loss),
@@ -204,6 +213,7 @@ pub enum Case {
     Filling(Vec<f32>),
     Kernel(Kernel),
     Penalty(Penalty),
+    Initial(Initial),
     File(File),
 }
 
@@ -231,6 +241,7 @@ impl Case {
             Case::Filling(_) => "check_and_fill_parameters",
             Case::Kernel(c) => KERNELS[c.number],
             Case::Penalty(_) => "l2_penalty",
+            Case::Initial(_) => "initial_stability",
             Case::File(_) => "batch_file",
         }
     }

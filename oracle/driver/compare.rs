@@ -1,8 +1,9 @@
 // A call on both sides: ours, and what document 01 and the Rust's text have of it.
 use crate::analytic;
-use crate::cases::{plain_bits, Case, File, Formula, Kernel, Loss, Outcome, Part, Row, Step, FIELDS, ON_DAY, WEIGHTS};
+use crate::cases::{plain_bits, Case, File, Formula, Initial, Kernel, Loss, Outcome, Part, Row, Step, FIELDS, ON_DAY, WEIGHTS};
 use crate::face::{self, UNWRITTEN_DOUBLE, UNWRITTEN_SINGLE};
 use crate::files;
+use crate::initial;
 use crate::model;
 use crate::penalty;
 use crate::rules::{self, Fault};
@@ -43,9 +44,9 @@ fn refused_loss(c: &Loss, fault: Fault) -> Outcome {
 }
 
 // Which refusals a call would have had behind the one it gets.
-fn note_faults(faults: &[Fault], tally: &mut Tally) {
-    let first = faults[0][0];
-    let mut later: Vec<u32> = faults.iter().map(|x| x[0]).filter(|x| *x != first).collect();
+fn note_refusals(mut numbers: impl Iterator<Item = u32>, tally: &mut Tally) {
+    let first = numbers.next().expect("a call that is refused");
+    let mut later: Vec<u32> = numbers.filter(|x| *x != first).collect();
     later.sort();
     later.dedup();
     for x in later {
@@ -62,7 +63,7 @@ fn expected_loss(c: &Loss, tally: &mut Tally) -> Outcome {
         outcome.parts.push(fault_part([0; 3]));
         return outcome;
     }
-    note_faults(&faults, tally);
+    note_refusals(faults.iter().map(|x| x[0]), tally);
     refused_loss(c, faults[0])
 }
 
@@ -110,6 +111,15 @@ fn expected_row(c: &Row, tally: &mut Tally) -> Outcome {
         0 => model::row_outcome(c, tally),
         refusal => Outcome { refusal, parts: vec![unwritten("verdict", false, 1)] },
     }
+}
+
+fn expected_initial(c: &Initial, tally: &mut Tally) -> Outcome {
+    let faults = initial::faults(c);
+    if faults.is_empty() {
+        return initial::outcome(c, tally);
+    }
+    note_refusals(faults.iter().copied(), tally);
+    Outcome { refusal: faults[0], parts: vec![unwritten("stability", false, 1)] }
 }
 
 fn expected_filling(given: &[f32], tally: &mut Tally) -> Outcome {
@@ -160,6 +170,7 @@ pub fn expected(case: &Case, tally: &mut Tally) -> Outcome {
                 Outcome { refusal, parts: vec![unwritten("penalty", true, 1), slots] }
             }
         },
+        Case::Initial(c) => expected_initial(c, tally),
         Case::Step(c) => match rules::step_refusal(c) {
             0 => analytic::step_outcome(c, tally),
             refusal => {
@@ -187,6 +198,7 @@ pub fn ours(case: &Case) -> Outcome {
         Case::Filling(given) => face::filling(given),
         Case::Kernel(c) => face::kernel(c),
         Case::Penalty(c) => face::penalty(c),
+        Case::Initial(c) => face::initial(c),
         Case::Step(c) => face::step(c),
         Case::Reverse(c) => face::reverse(c),
         Case::Formula(c) => face::formula(c),

@@ -1,6 +1,6 @@
 // Our C functions (include/fsrs6.h) on the calls. What they may write stands between guards, and what they may not is
 // looked at again afterwards.
-use crate::cases::{File, Formula, Kernel, Loss, Outcome, Part, Penalty, Reverse, Row, Step, FIELDS, ON_DAY, WEIGHTS};
+use crate::cases::{File, Formula, Initial, Kernel, Loss, Outcome, Part, Penalty, Reverse, Row, Step, FIELDS, ON_DAY, WEIGHTS};
 
 #[rustfmt::skip]
 extern "C" {
@@ -51,6 +51,7 @@ extern "C" {
     fn fsrs_card_loss_and_grad_fault(end: bool, w: *const f32, w_len: usize, t_hist: *const f32, t_hist_len: usize, r_hist: *const f32, r_hist_len: usize, seq_len: u32, batch: u32, seq_lens: *const u32, seq_lens_len: usize, labels: *const f32, labels_len: usize, weights: *const f32, weights_len: usize, gw_len: usize, records_len: usize, step_grads_len: usize) -> Told<3>;
 
     fn fsrs_l2_penalty(w: *const f32, w_len: usize, init_w: *const f32, init_w_len: usize, batch_size: u64, total_size: u64, l2_weight: f64, params_stddev: *const f32, params_stddev_len: usize, slots: *mut f32, slots_len: usize, penalty: *mut f64) -> u32;
+    fn fsrs_initial_stability(delta_t: *const f64, delta_t_len: usize, recall: *const f64, recall_len: usize, count: *const f64, count_len: usize, default_stability: f64, stability: *mut f32) -> u32;
     fn fsrs_batch_file(file: *const u8, file_len: usize, gw: *mut f64, gw_len: usize, loss: *mut f64) -> u32;
     fn fsrs_batch_file_fault(file: *const u8, file_len: usize) -> Told<3>;
 }
@@ -249,6 +250,19 @@ pub fn penalty(c: &Penalty) -> Outcome {
         )
     };
     Outcome { refusal, parts: vec![double_part("penalty", penalty), single_part("slots", slots)] }
+}
+
+pub fn initial(c: &Initial) -> Outcome {
+    let (mut stability, given) = (singles(1), c.clone());
+    let refusal = unsafe {
+        fsrs_initial_stability(
+            c.days.as_ptr(), c.days.len(), c.shares.as_ptr(), c.shares.len(), c.counts.as_ptr(), c.counts.len(), c.default,
+            stability.place(0),
+        )
+    };
+    let bits = |c: &Initial| [&c.days, &c.shares, &c.counts].map(|xs| xs.iter().map(|x| x.to_bits()).collect::<Vec<_>>());
+    assert!(bits(c) == bits(&given), "a write to an input slice");
+    Outcome { refusal, parts: vec![single_part("stability", stability)] }
 }
 
 pub fn formula(c: &Formula) -> Outcome {

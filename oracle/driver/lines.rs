@@ -8,8 +8,9 @@
 //     f    a filling: a slice of singles
 //     k    a kernel: its number from 0, three patterns
 //     p    a penalty: the sizes, the factor, the old weights, the spreads and the slots, three slices of singles
+//     i    first recalls: the default, the days, the shares and the counts, three slices of doubles
 //     b    a batch file: its length, and its bytes as one word
-use crate::cases::{Case, File, Formula, Kernel, Loss, Outcome, Penalty, Reverse, Row, Step};
+use crate::cases::{Case, File, Formula, Initial, Kernel, Loss, Outcome, Penalty, Reverse, Row, Step};
 use crate::compare::{digest, stored_loss};
 
 // ---- writing
@@ -81,6 +82,10 @@ pub fn lines(case: &Case, answer: Option<&Outcome>) -> String {
         Case::Penalty(c) => {
             let sets = singles(&c.old) + &singles(&c.spreads) + &singles(&c.slots);
             format!("{}\np {:x} {:x} {:016x}{sets}", weights_line(&c.w), c.batch, c.total, c.factor.to_bits())
+        }
+        Case::Initial(c) => {
+            let columns = doubles(&c.days) + &doubles(&c.shares) + &doubles(&c.counts);
+            format!("i {:016x}{columns}", c.default.to_bits())
         }
         Case::File(c) => {
             let bytes: String = c.bytes.iter().map(|x| format!("{x:02x}")).collect();
@@ -233,6 +238,12 @@ impl Reader {
                 old: words.singles(),
                 spreads: words.singles(),
                 slots: words.singles(),
+            }),
+            'i' => Case::Initial(Initial {
+                default: words.double(),
+                days: words.doubles(),
+                shares: words.doubles(),
+                counts: words.doubles(),
             }),
             'b' => Case::File(File { bytes: words.bytes(), slots: self.slots.clone() }),
             _ => panic!("no such line: {line}"),

@@ -1,8 +1,9 @@
 // Holds our C functions to the Rust's own text, run over our kernels, with document 01's checks around it.
 //
 //     driver check SEED COUNT     compares generated calls, half as many losses at the end of their tables, each loss in
-//                                 both modes, a quarter as many penalties, an eighth as many files, and an eighth as many rows,
-//                                 each with the text's answers and with one bit of each field flipped
+//                                 both modes, a quarter as many penalties and as many searches of first recalls, an eighth as
+//                                 many files, and an eighth as many rows, each with the text's answers and with one bit of
+//                                 each field flipped
 //     driver stock SEED COUNT     measures distances; for a driver whose text was left as it is
 //     driver replay FILE...       compares the calls of FILE (lines.rs says what a line holds)
 //     driver vectors FILE...      compares the answers stored in FILE
@@ -15,6 +16,7 @@ mod damage;
 mod face;
 mod files;
 mod generate;
+mod initial;
 mod kernels;
 mod lines;
 mod model;
@@ -85,6 +87,10 @@ fn check(seed: u64, count: u64, tally: &mut Tally) {
     }
     for i in 0..count / 4 {
         run(&Case::Penalty(penalty::some(seed, i)), &format!("penalty {i} of seed {seed}"), tally);
+    }
+    initial::name_exits(tally);
+    for i in 0..count / 4 {
+        run(&Case::Initial(initial::some(seed, i)), &format!("first recalls {i} of seed {seed}"), tally);
     }
     for i in 0..count / 8 {
         for (j, c) in generate::rows(seed, i).into_iter().enumerate() {

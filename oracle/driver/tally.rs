@@ -16,6 +16,11 @@ pub struct Tally {
 }
 
 impl Tally {
+    /// A branch that is told of also where it is never met.
+    pub fn name(&mut self, name: &str) {
+        self.branches.entry(name.to_string()).or_insert(0);
+    }
+
     pub fn branch(&mut self, name: &str) {
         match self.branches.get_mut(name) {
             Some(n) => *n += 1,

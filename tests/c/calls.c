@@ -18,6 +18,8 @@ struct call {
     size_t init_w_len, spreads_len;
     uint64_t batch_size, total_size;
     double l2_weight;
+    double recall_days[ROWS], shares[ROWS], counts[ROWS], default_stability;
+    size_t recall_days_len, shares_len, counts_len;
     uint32_t rows, columns, lengths[COLUMNS];
     float days[CELLS], ratings[CELLS], target_days[COLUMNS], labels[CELLS], weights[CELLS];
     size_t cells;
@@ -61,6 +63,13 @@ static struct call good(void) {
         .batch_size = 10,
         .total_size = 100,
         .l2_weight = 2,
+        .recall_days = {1, 3, 7},
+        .shares = {0.95, 0.9, 0.8},
+        .counts = {40, 20, 10},
+        .default_stability = 2.5,
+        .recall_days_len = ROWS,
+        .shares_len = ROWS,
+        .counts_len = ROWS,
         .rows = ROWS,
         .columns = COLUMNS,
         .lengths = {ROWS, ROWS - 1},
@@ -277,6 +286,11 @@ static uint32_t penalty(struct call *x) {
                            x->spreads_len, x->slots, x->slots_len, &x->penalty);
 }
 
+static uint32_t initial(struct call *x) {
+    return fsrs_initial_stability(x->recall_days, x->recall_days_len, x->shares, x->shares_len, x->counts, x->counts_len,
+                                  x->default_stability, &x->answer);
+}
+
 static uint32_t file(struct call *x) {
     return fsrs_batch_file(x->file, x->file_len, x->gw, x->gw_len, &x->loss);
 }
@@ -295,6 +309,7 @@ enum {
     STEP = FORMULA | BIT(FSRS_RATING) | BIT(FSRS_DAY),
     CARD = BOX | BIT(FSRS_SIZES) | BIT(FSRS_RATING) | BIT(FSRS_DAY) | BIT(FSRS_REVIEW),
     PREFIX = CARD | BIT(FSRS_EMPTY_PREFIX),
+    RECALLS = BIT(FSRS_SIZES) | BIT(FSRS_SCALAR) | BIT(FSRS_DAY) | BIT(FSRS_REVIEW),
     SLOTS = BIT(FSRS_SLOT_COUNT),
     LENT = SLOTS | BIT(FSRS_ROOM),
     /* a file always has 21 weights, whole sections and its own room; its sizes are tried below */
@@ -346,6 +361,7 @@ static const struct function functions[] = {
     {"card_loss_and_grad_fault, start", card_grad_fault_at_start, CARD | LENT},
     {"card_loss_and_grad_fault, end", card_grad_fault_at_end, CARD | LENT},
     {"l2_penalty", penalty, FORMULA | SLOTS},
+    {"initial_stability", initial, RECALLS},
     {"batch_file", file, CARD_FILE},
     {"batch_file_fault", file_fault, CARD_FILE & ~SLOTS},
 };
@@ -420,14 +436,17 @@ static void weight_none(struct call *x) {
 
 static void rows_over(struct call *x) {
     x->rows = FSRS_MAX_ROWS + 1;
+    x->recall_days_len = ROWS - 1;
 }
 
 static void columns_over(struct call *x) {
     x->columns = FSRS_MAX_COLUMNS + 1;
+    x->shares_len = ROWS - 1;
 }
 
 static void cells_short(struct call *x) {
     x->cells = CELLS - 1;
+    x->counts_len = ROWS - 1;
 }
 
 static void records_short(struct call *x) {
@@ -444,14 +463,17 @@ static void rating_beyond(struct call *x) {
 
 static void day_beyond(struct call *x) {
     x->day = x->days[COLUMNS] = 100000.0078125f;
+    x->recall_days[1] = 0x1.86a0000000001p16;
 }
 
 static void label_beyond(struct call *x) {
     x->labels[0] = x->labels[COLUMNS] = -0.5f;
+    x->shares[ROWS - 1] = -0.5;
 }
 
 static void review_none(struct call *x) {
     x->weights[0] = x->weights[COLUMNS] = NAN;
+    x->counts[0] = NAN;
 }
 
 static void prefix_empty(struct call *x) {
@@ -460,6 +482,7 @@ static void prefix_empty(struct call *x) {
 
 static void not_finite(struct call *x) {
     x->stability = x->difficulty = x->ease = x->spreads[20] = INFINITY;
+    x->default_stability = INFINITY;
     x->whole_rating = 5;
 }
 
@@ -646,7 +669,146 @@ static void penalties_refused(void) {
     expect_penalty("20 weights", x, FSRS_WEIGHT_COUNT);
 }
 
+/* One cell at a time, in each row. */
+static void expect_cells(const char *name, double *cells, const double *bad, size_t n, struct call *x, uint32_t number) {
+    for (size_t i = 0; i < n; i++) {
+        for (size_t row = 0; row < ROWS; row++) {
+            double was = cells[row];
+            cells[row] = bad[i];
+            expect_refused(name, initial, x, number);
+            cells[row] = was;
+        }
+    }
+}
+
+static void expect_recalls(const char *name, struct call x, uint32_t number) {
+    expect_refused(name, initial, &x, number);
+}
+
+/* 3, 13, then row by row 7 and 8, in this order. */
+static void recalls_refused(void) {
+    struct call x = good();
+    const double least = 0x1p-1074;
+    const double days[] = {0, -0.0, -least, -1, 0x1.86a0000000001p16, INFINITY, -INFINITY, NAN};
+    const double shares[] = {-least, 1 + 0x1p-52, 2, 90, -1, INFINITY, -INFINITY, NAN};
+    const double counts[] = {0, -0.0, -least, -1, 0x1.0000000000001p32, INFINITY, -INFINITY, NAN};
+    expect_cells("a day out of range", x.recall_days, days, sizeof days / sizeof *days, &x, FSRS_DAY);
+    expect_cells("a share out of range", x.shares, shares, sizeof shares / sizeof *shares, &x, FSRS_REVIEW);
+    expect_cells("a count out of range", x.counts, counts, sizeof counts / sizeof *counts, &x, FSRS_REVIEW);
+    /* 0.0001 as a single is 0x1.a36e2ep-14 */
+    const double defaults[] = {0, -0.0, least, 0x1.a36e2dfffffffp-14, 0x1.9000000000001p6, 36500, -1, INFINITY, -INFINITY, NAN};
+    for (size_t i = 0; i < sizeof defaults / sizeof *defaults; i++) {
+        struct call y = good();
+        y.default_stability = defaults[i];
+        expect_recalls("a default out of range", y, FSRS_SCALAR);
+        y.recall_days[0] = 0;
+        y.shares[0] = 2;
+        expect_recalls("a default, a day and a share", y, FSRS_SCALAR);
+        y.counts_len = ROWS - 1;
+        expect_recalls("unequal columns, and a default", y, FSRS_SIZES);
+        y.recall_days_len = y.shares_len = y.counts_len = 0;
+        expect_recalls("no rows, and a default", y, FSRS_SCALAR);
+    }
+    /* in a row the day comes first, and of two rows the first one */
+    x.recall_days[1] = 0;
+    x.shares[1] = 2;
+    expect_recalls("a day and a share of one row", x, FSRS_DAY);
+    x.shares[0] = 2;
+    expect_recalls("a share before a day", x, FSRS_REVIEW);
+    x.shares[0] = 0.5;
+    x.counts[0] = 0;
+    expect_recalls("a count before a day", x, FSRS_REVIEW);
+    x.recall_days[0] = NAN;
+    expect_recalls("a day and a count of one row", x, FSRS_DAY);
+    /* each column shorter or longer than the others */
+    for (int i = 0; i < 6; i++) {
+        struct call y = good();
+        size_t *lengths[] = {&y.recall_days_len, &y.shares_len, &y.counts_len};
+        if (i < 3) {
+            *lengths[i] = 0;
+        } else {
+            *lengths[i % 3] = *lengths[(i + 1) % 3] = ROWS - 1;
+        }
+        expect_recalls("unequal columns", y, FSRS_SIZES);
+    }
+}
+
 /* ---- answers */
+
+static void expect_initial(const char *name, double day, double share, double count, double start, float want) {
+    struct call x = good();
+    x.recall_days_len = x.shares_len = x.counts_len = 1;
+    x.recall_days[0] = day;
+    x.shares[0] = share;
+    x.counts[0] = count;
+    x.default_stability = start;
+    expect(initial(&x) == FSRS_ACCEPTED, "%s: refused", name);
+    expect_single(name, x.answer, want);
+}
+
+/* A slope that is no number is not above 0, so that the search goes up to 100, by halves: 100, or the single before it. */
+static void expect_no_slope(double day, double share, double start) {
+    struct call x = good();
+    x.recall_days_len = x.shares_len = x.counts_len = 1;
+    x.recall_days[0] = day;
+    x.shares[0] = share;
+    x.default_stability = start;
+    expect(initial(&x) == FSRS_ACCEPTED, "no slope: refused");
+    expect(x.answer <= 100 && x.answer >= 0x1.8ffffep6f, "no slope: %g, not 100", (double)x.answer);
+}
+
+/* Answers that need no search by hand: the default, an end of the range, and a stability that is known. */
+static void recalls(void) {
+    const double most = 0x1p32, least = 0x1p-1074, first = 0.0001f;
+    const double defaults[] = {first, 0.0001, 0.212f, 1 + 0x1p-30, 2.5, 8.2956, 50, 100};
+    for (size_t i = 0; i < sizeof defaults / sizeof *defaults; i++) {
+        double start = defaults[i];
+        struct call x = good();
+        x.recall_days_len = x.shares_len = x.counts_len = 0;
+        x.default_stability = start;
+        expect(initial(&x) == FSRS_ACCEPTED, "no rows: refused");
+        expect_single("no rows", x.answer, (float)start);
+        expect_initial("next to no cards", 5, 0.25, least, start, (float)start);
+        expect_initial("all forgotten", 1, 0, most, start, 0.0001f);
+        expect_initial("all forgotten, -0.0", 100000, -0.0, most, start, 0.0001f);
+        expect_initial("all recalled after long", 100000, 1, most, start, 100);
+        /* so few days that the curve is 1: a slope of +infinity; 0 / 0; and infinity * 0, where days times the decay are 0 */
+        expect_initial("1e-300 days, half recalled", 1e-300, 0.5, 1, start, 0.0001f);
+        expect_initial("1e-300 days, none recalled", 1e-300, 0, most, start, 0.0001f);
+        expect_no_slope(1e-300, 1, start);
+        expect_no_slope(least, 0, start);
+        /* where nine of ten are recalled after so many days, the stability is just that: so it is defined. There are so many
+         * cards that the default does not count. */
+        const double days[] = {0.01, 0.5, 1, 3, 20, 64};
+        for (size_t j = 0; j < sizeof days / sizeof *days; j++) {
+            expect_initial("nine of ten recalled", days[j], 0.9, most, start, (float)days[j]);
+        }
+    }
+}
+
+/* 4096 rows, and one more. */
+static void long_recalls(void) {
+    static double days[FSRS_MAX_RECALLS + 1], shares[FSRS_MAX_RECALLS + 1], counts[FSRS_MAX_RECALLS + 1];
+    const size_t most = FSRS_MAX_RECALLS;
+    float answer = 7;
+    for (size_t i = 0; i <= most; i++) {
+        days[i] = 3;
+        shares[i] = 0.9;
+        counts[i] = 0x1p20;
+    }
+    expect(fsrs_initial_stability(days, most, shares, most, counts, most, 2.5, &answer) == FSRS_ACCEPTED, "4096 rows: refused");
+    expect_single("4096 rows", answer, 3);
+    answer = 7;
+    expect(fsrs_initial_stability(days, most + 1, shares, most + 1, counts, most + 1, 2.5, &answer) == FSRS_SIZES, "4097 rows");
+    expect_single("4097 rows", answer, 7);
+    /* 3 comes before 13 and 7; the last row is looked at too */
+    days[most] = shares[most - 1] = -1;
+    expect(fsrs_initial_stability(days, most + 1, shares, most + 1, counts, most + 1, NAN, &answer) == FSRS_SIZES,
+           "4097 rows, and a default");
+    expect(fsrs_initial_stability(days, most, shares, most, counts, most, 2.5, &answer) == FSRS_REVIEW,
+           "the last of 4096 rows");
+    expect_single("the last of 4096 rows", answer, 7);
+}
 
 static void expect_slots(const char *name, struct call *x, double wanted, float slot_4, float others) {
     expect(penalty(x) == FSRS_ACCEPTED, "%s: refused", name);
@@ -1627,6 +1789,9 @@ int main(void) {
     imports_refused();
     penalties_refused();
     penalties();
+    recalls_refused();
+    recalls();
+    long_recalls();
     kernels();
     kernels_refused();
     formulas();

@@ -1,6 +1,6 @@
-/* Runs lists of vectors through the C functions: lists ARITHMETIC STUDY STEP PENALTY LOSSES.., files of crates/vectors/data. Their
- * answers come from a second reading of the rules; the scripts in tools/vectors say what a line holds. Lines about what is no C
- * function are left out. After a refused call what was lent must have the bits that it had. */
+/* Runs lists of vectors through the C functions: lists ARITHMETIC STUDY STEP PENALTY INITIAL LOSSES.., files of
+ * crates/vectors/data. Their answers come from a second reading of the rules; the scripts in tools/vectors say what a line
+ * holds. Lines about what is no C function are left out. After a refused call what was lent must have the bits that it had. */
 #include "../../include/fsrs6.h"
 #include "check.h"
 #include <stdlib.h>
@@ -329,6 +329,32 @@ static void penalty_line(char letter) {
     }
 }
 
+/* ---- starting stabilities */
+
+struct doubles {
+    double at[WORDS];
+    size_t n;
+};
+
+static const uint64_t *take_column(struct doubles *to, const uint64_t *from) {
+    to->n = (size_t)from[0] < WORDS ? (size_t)from[0] : WORDS;
+    take_doubles(to->at, from + 1, to->n);
+    return from + 1 + from[0];
+}
+
+static void initial_line(char letter) {
+    static struct doubles days, shares, counts;
+    if (letter != 'S') {
+        return;
+    }
+    const uint64_t *at = take_column(&counts, take_column(&shares, take_column(&days, words + 1)));
+    uint32_t refusal = fsrs_initial_stability(days.at, days.n, shares.at, shares.n, counts.at, counts.n,
+                                              double_of(words[0]), lent.answers);
+    if (expect_refusal(refusal, at[0])) {
+        expect_singles("stability", lent.answers, at + 1, 1);
+    }
+}
+
 /* ---- the files */
 
 static void take_words(const char *text) {
@@ -366,15 +392,16 @@ static void run(const char *name, void (*try)(char)) {
 }
 
 int main(int argc, char **argv) {
-    if (argc < 6) {
-        fputs("usage: lists ARITHMETIC STUDY STEP PENALTY LOSSES..\n", stderr);
+    if (argc < 7) {
+        fputs("usage: lists ARITHMETIC STUDY STEP PENALTY INITIAL LOSSES..\n", stderr);
         return 2;
     }
     run(argv[1], arithmetic_line);
     run(argv[2], study_line);
     run(argv[3], step_line);
     run(argv[4], penalty_line);
-    for (int i = 5; i < argc; i++) {
+    run(argv[5], initial_line);
+    for (int i = 6; i < argc; i++) {
         run(argv[i], loss_line);
     }
     return finish();

@@ -145,6 +145,19 @@ static void penalty(struct round *x) {
     see_singles(x, slots, FSRS_WEIGHTS);
 }
 
+static void recalls(struct round *x) {
+    double days[ROWS], shares[ROWS], counts[ROWS];
+    float stability;
+    size_t rows = any(x) % (ROWS + 1);
+    for (size_t i = 0; i < rows; i++) {
+        days[i] = 1 + any(x) % 30;
+        shares[i] = between(x, 0, 1);
+        counts[i] = 1 + any(x) % 50;
+    }
+    accept(x, fsrs_initial_stability(days, rows, shares, rows, counts, rows, x->s, &stability));
+    see_singles(x, &stability, 1);
+}
+
 static void file(struct round *x) {
     uint32_t i = any(x) % FILES;
     double gw[FSRS_WEIGHTS], loss;
@@ -170,6 +183,7 @@ static struct round run_round(uint64_t number) {
     steps(&x);
     losses(&x);
     penalty(&x);
+    recalls(&x);
     file(&x);
     return x;
 }

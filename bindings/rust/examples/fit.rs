@@ -1,6 +1,7 @@
 //! Fits the 21 weights to a deck: Adam over the card loss (or the prefix loss), with a pull toward the default weights, so
-//! that a small deck gives no wild fit. A weight that the deck says nothing about keeps its value, and each stays in its
-//! range. It prints loss and weights as it goes, and stops by itself.
+//! that a small deck gives no wild fit. The four stabilities after a first review begin where the deck's own first recalls
+//! put them, unless the text says where to begin. A weight that the deck says nothing about keeps its value, and each stays in
+//! its range. It prints loss and weights as it goes, and stops by itself.
 //!
 //!     cargo run --release --example fit -- DECK.txt          fits a deck in the text form of examples/deck.txt
 //!     cargo run --release --example fit -- --deck [SEED]     writes such a deck, generated from known weights
@@ -14,9 +15,12 @@ pub mod adam;
 pub mod deck;
 #[path = "fit/generate.rs"]
 pub mod generate;
+#[path = "fit/start.rs"]
+pub mod start;
 
 use adam::{Found, Trainer};
 use deck::Deck;
+use start::Start;
 use std::io::{self, Write};
 use std::process::ExitCode;
 
@@ -39,13 +43,21 @@ fn frozen(trainer: &Trainer) -> String {
     }
 }
 
+/// What the first recalls of a rating gave.
+fn told(x: &Start) -> String {
+    let days = if x.rows == 1 { "day" } else { "days" };
+    format!("first rating {}: recalls on {} {days}, stability {} -> {}", x.rating, x.rows, x.default, x.found)
+}
+
 fn fit(path: &str) -> Result<(), String> {
     let text = std::fs::read_to_string(path).map_err(|error| format!("cannot read {path}: {error}"))?;
     let deck = Deck::parse(&text).map_err(|wrong| format!("{path}: {wrong}"))?;
     let mut trainer = Trainer::new(&deck).map_err(|refusal| refusal.to_string())?;
     eprintln!("on {}, over {}", std::env::consts::ARCH, env!("FSRS6_ARCHIVE"));
     eprintln!("{} cards, {} scored reviews", deck.cards.len(), trainer.total);
-    let mut said = writeln!(io::stdout(), "frozen, since no review reads them: {}", frozen(&trainer));
+    let frozen = format!("frozen, since no review reads them: {}", frozen(&trainer));
+    let starts = trainer.starts.iter().map(told);
+    let mut said = std::iter::once(frozen).chain(starts).try_for_each(|line| writeln!(io::stdout(), "{line}"));
     let found = trainer
         .run(|step, at: &Found, best: &Found| {
             eprint!("\rstep {step}: loss {:.6}, pull {:.6}, best {:.6} ", at.loss, at.pull, best.loss);

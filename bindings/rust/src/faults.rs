@@ -64,7 +64,7 @@ impl Error for Fault {}
 /// let fault = batch_loss_fault(&w, &two).expect("a NaN");
 /// assert_eq!(batch_loss(&w, &two), Err(fault.refusal));
 /// assert_eq!((fault.refusal, fault.place), (Refusal::Day, Some(Place { column: 1, row: 1 }))); // its scored review
-/// assert_eq!(fault.to_string(), "column 1, row 1: a day is outside -100000..100000");
+/// assert_eq!(fault.to_string(), "column 1, row 1: a day is out of range");
 /// assert_eq!(batch_loss_fault(&w, &Prefixes { weights: &[1.0, 0.0], ..two }), None); // of weight 0, and so unread
 /// # Ok::<(), Refusal>(())
 /// ```

@@ -1,5 +1,5 @@
-//! The scalar core of FSRS-6: kernels, formulas, the training step, the two losses and a pull toward the old weights, each
-//! proved to be its definition.
+//! The scalar core of FSRS-6: kernels, formulas, the training step, the two losses, a pull toward the old weights and starting
+//! stabilities, each proved to be its definition.
 //!
 //! These are safe functions over the C library of `include/fsrs6.h`, one for each of its functions and under its name; a
 //! loss has one, and its batch tells the mode ([`Align`]). A call answers, or gives the [`Refusal`] by which it was refused
@@ -36,6 +36,7 @@
 mod explain;
 mod faults;
 mod formulas;
+mod initial;
 mod kernels;
 mod losses;
 mod penalty;
@@ -56,6 +57,7 @@ pub use formulas::{
     next_interval, next_state, next_state_on, power_forgetting_curve, stability_after_failure, stability_after_success,
     stability_short_term,
 };
+pub use initial::initial_stability;
 pub use kernels::{
     exp_f32, exp_f64, expm1_f32, fma_f32, fma_f64, ln_f32, ln_f64, pow_f32, pow_f64, round_f32, round_f64,
 };
@@ -116,6 +118,8 @@ pub const FILE_BYTES: usize = 65536;
 pub const FILE_ROWS: u32 = 512;
 /// The last day number ([`Seen`]).
 pub const MAX_DAY: u32 = 100000;
+/// The most rows of [`initial_stability`].
+pub const MAX_RECALLS: usize = 4096;
 /// The most that a batch size or a total of [`l2_penalty`] is: 2^31.
 pub const MAX_SIZE: u64 = 1 << 31;
 

@@ -344,6 +344,16 @@ mod c {
             slots_len: usize,
             penalty: *mut f64,
         ) -> u32;
+        pub fn fsrs_initial_stability(
+            delta_t: *const f64,
+            delta_t_len: usize,
+            recall: *const f64,
+            recall_len: usize,
+            count: *const f64,
+            count_len: usize,
+            default_stability: f64,
+            stability: *mut f32,
+        ) -> u32;
         pub fn fsrs_batch_file(file: *const u8, file_len: usize, gw: *mut f64, gw_len: usize, loss: *mut f64) -> u32;
         pub fn fsrs_batch_file_fault(file: *const u8, file_len: usize) -> Found;
     }
@@ -662,6 +672,29 @@ pub fn l2_penalty(
         )
     };
     Refusal::accepted(number, penalty)
+}
+
+pub fn initial_stability(
+    delta_t: &[f64],
+    recall: &[f64],
+    count: &[f64],
+    default_stability: f64,
+) -> Result<f32, Refusal> {
+    let mut stability = 0.0;
+    // SAFETY: each pointer is a slice's and goes with that slice's length; the place is this function's.
+    let number = unsafe {
+        c::fsrs_initial_stability(
+            delta_t.as_ptr(),
+            delta_t.len(),
+            recall.as_ptr(),
+            recall.len(),
+            count.as_ptr(),
+            count.len(),
+            default_stability,
+            &mut stability,
+        )
+    };
+    Refusal::accepted(number, stability)
 }
 
 pub fn batch_file(file: &[u8], gw: &mut [f64]) -> Result<f64, Refusal> {

@@ -11,7 +11,7 @@ pub enum Refusal {
     WeightCount = 1,
     /// A weight outside the box; in filling, also an entry that is not finite.
     WeightBox = 2,
-    /// Rows or columns over the limit, or an input slice too short.
+    /// Rows or columns over the limit, or an input slice too short; columns of first recalls that are not of one length.
     Sizes = 3,
     /// Too few records, or step gradients, for the longest column.
     Room = 4,
@@ -19,9 +19,9 @@ pub enum Refusal {
     SlotCount = 5,
     /// A rating that is read is not 0, 1, 2, 3 or 4.
     Rating = 6,
-    /// A day that is read is outside -100000..100000.
+    /// A day that is read is outside -100000..100000; of a first recall also one that is not above 0.
     Day = 7,
-    /// A review weight or label that is read is out of range.
+    /// A review weight or label that is read is out of range, or a share or count of first recalls.
     Review = 8,
     /// A prefix of length 0.
     EmptyPrefix = 9,
@@ -31,7 +31,7 @@ pub enum Refusal {
     File = 11,
     /// A weight set to fill has not 0, 17, 19 or 21 entries.
     FillingCount = 12,
-    /// An argument of a formula or of a single step.
+    /// An argument of a formula, of a single step or of the pull toward the old weights, or a default stability.
     Scalar = 13,
     /// A card from SM-2 gets no finite state, as by a retention not inside 0..1.
     Import = 14,
@@ -87,8 +87,8 @@ impl fmt::Display for Refusal {
             Refusal::Room => "too few records or step gradients for the longest column",
             Refusal::SlotCount => "not 21 gradient slots",
             Refusal::Rating => "a rating is not 0, 1, 2, 3 or 4",
-            Refusal::Day => "a day is outside -100000..100000",
-            Refusal::Review => "a review weight or a label is out of range",
+            Refusal::Day => "a day is out of range",
+            Refusal::Review => "a review weight, a label, a share or a count is out of range",
             Refusal::EmptyPrefix => "a prefix has the length 0",
             Refusal::Kernel => "an argument is outside the kernel's domain",
             Refusal::File => "the batch file is malformed",

@@ -355,6 +355,66 @@ fn penalties_pull_back() {
     }
 }
 
+/// 3, 13, then row by row 7 and 8, in this order.
+#[test]
+fn first_recalls_are_refused() {
+    let (days, shares, counts) = ([1.0, 3.0, 7.0], [0.95, 0.9, 0.8], [40.0, 20.0, 10.0]);
+    let with = |row: usize, x: f64, mut xs: [f64; 3]| {
+        xs[row] = x;
+        xs
+    };
+    let refused = |t: &[f64], y: &[f64], n: &[f64], s: f64, refusal| {
+        assert_eq!(initial_stability(t, y, n, s), Err(refusal), "{t:?} {y:?} {n:?} {s}")
+    };
+    let least = f64::from_bits(1);
+    let never = [f64::NAN, f64::INFINITY, f64::NEG_INFINITY, -1.0, -least];
+    for row in 0..3 {
+        for x in never.into_iter().chain([0.0, -0.0, 100000f64.next_up()]) {
+            refused(&with(row, x, days), &shares, &counts, 2.5, Refusal::Day);
+            refused(&with(row, x, days), &with(row, 2.0, shares), &with(row, 0.0, counts), 2.5, Refusal::Day);
+        }
+        for x in never.into_iter().chain([1f64.next_up(), 2.0]) {
+            refused(&days, &with(row, x, shares), &counts, 2.5, Refusal::Review);
+        }
+        for x in never.into_iter().chain([0.0, -0.0, 4294967296f64.next_up()]) {
+            refused(&days, &shares, &with(row, x, counts), 2.5, Refusal::Review);
+        }
+    }
+    // of two rows the first one
+    refused(&with(1, 0.0, days), &with(0, 2.0, shares), &counts, 2.5, Refusal::Review);
+    refused(&with(1, 0.0, days), &shares, &with(0, 0.0, counts), 2.5, Refusal::Review);
+    refused(&with(0, 0.0, days), &with(1, 2.0, shares), &counts, 2.5, Refusal::Day);
+    for x in never.into_iter().chain([0.0, f64::from(0.0001f32).next_down(), 100f64.next_up()]) {
+        refused(&with(0, 0.0, days), &shares, &counts, x, Refusal::Scalar);
+        refused(&[], &[], &[], x, Refusal::Scalar);
+        refused(&days[..2], &shares, &counts, x, Refusal::Sizes);
+        refused(&days, &shares[..2], &counts, x, Refusal::Sizes);
+        refused(&days, &shares, &counts[..2], x, Refusal::Sizes);
+    }
+    let rows = [1.0; MAX_RECALLS + 1];
+    refused(&rows, &rows, &rows, 2.5, Refusal::Sizes);
+    assert!(initial_stability(&rows[1..], &rows[1..], &rows[1..], 2.5).is_ok());
+}
+
+/// No rows and few recalls leave the default; nine of ten recalled after so many days are a stability of so many.
+#[test]
+fn first_recalls_start() {
+    for start in [f64::from(0.0001f32), 0.0001, 1.0, 2.5, 8.2956, 100.0] {
+        assert_eq!(initial_stability(&[], &[], &[], start), Ok(start as f32));
+        assert_eq!(initial_stability(&[5.0], &[0.25], &[1e-9], start), Ok(start as f32));
+        assert_eq!(initial_stability(&[1.0], &[0.0], &[4294967296.0], start), Ok(0.0001));
+        assert_eq!(initial_stability(&[100000.0], &[1.0], &[4294967296.0], start), Ok(100.0));
+        for days in [0.5, 1.0, 3.0, 20.0] {
+            let shares = [days, 2.0 * days, 9.0 * days].map(|t| {
+                let factor = 0.9f64.powf(-1.0 / f64::from(0.1542f32)) - 1.0;
+                (1.0 + t / days * factor).powf(-f64::from(0.1542f32))
+            });
+            let found = initial_stability(&[days, 2.0 * days, 9.0 * days], &shares, &[1e9; 3], start);
+            assert_eq!(found, Ok(days as f32), "from {start}");
+        }
+    }
+}
+
 #[test]
 fn slots_sizes_and_room_are_refused() {
     refuse(&[STEP_BACKWARD], Refusal::SlotCount, |x| x.gw.truncate(20));

@@ -1,5 +1,6 @@
 //! The trainer of examples/fit.rs: on a deck of some thousand reviews from known weights its loss falls below that of the
-//! defaults, weights that the deck says nothing about stay, and it stops by itself.
+//! defaults, it begins where the deck's first recalls put the first stabilities, weights that the deck says nothing about stay,
+//! and it stops by itself.
 
 #[path = "../examples/fit.rs"]
 #[allow(dead_code)]
@@ -8,7 +9,8 @@ mod fit;
 use fit::adam::{Fitted, Trainer};
 use fit::deck::Deck;
 use fit::generate::{deck, LEARNER};
-use fsrs6::{check_and_fill_parameters, WEIGHTS};
+use fit::start::{starts, Recalls};
+use fsrs6::{check_and_fill_parameters, initial_stability, MAX_RECALLS, WEIGHTS};
 
 fn parsed(text: &str) -> Deck {
     Deck::parse(text).expect("a deck")
@@ -40,6 +42,63 @@ fn the_loss_falls_below_that_of_the_defaults() {
         // the best weights make the best loss again, and are a set that every function takes
         assert_eq!(trainer.at(found.best.weights).expect("a loss").loss, found.best.loss);
     }
+}
+
+/// A card's first recall is its first later review on another day: same-day reviews and padding are passed over, and what is
+/// not scored is left out.
+#[test]
+fn first_recalls_are_grouped() {
+    let cards = [
+        "0 3\n0 3\n2 1\n5 3",
+        "0 3\n2 4\n",
+        "0 3\n1 0\n2 2\n",
+        "0 3\n0.5 3",
+        "0 3\n0 1",
+        "0 3\n7 1 0\n2 3",
+        "0 1\n4 1",
+    ];
+    let text = cards.join("\n\n");
+    let recalls = |days: &[f64], shares: &[f64], counts: &[f64]| Recalls {
+        days: days.to_vec(),
+        shares: shares.to_vec(),
+        counts: counts.to_vec(),
+    };
+    let deck = parsed(&text);
+    assert_eq!(deck.recalls(3), recalls(&[0.5, 2.0], &[1.0, 2.0 / 3.0], &[1.0, 3.0]));
+    assert_eq!(deck.recalls(1), recalls(&[4.0], &[0.0], &[1.0]));
+    assert_eq!((deck.recalls(2), deck.recalls(4)), (Recalls::default(), Recalls::default()));
+    // of a prefix the last review alone is scored
+    let prefixes = parsed(&format!("prefix\n{text}"));
+    assert_eq!(prefixes.recalls(3), recalls(&[0.5, 2.0], &[1.0, 1.0], &[1.0, 2.0]));
+    // as many days as the search takes
+    let many: Vec<String> = (1..=MAX_RECALLS + 1).map(|day| format!("0 4\n{day} 3\n")).collect();
+    assert_eq!(parsed(&many.join("\n")).recalls(4).days.len(), MAX_RECALLS);
+}
+
+/// The first stabilities begin at the search's, in their range, and with weights in the text nowhere else than there.
+#[test]
+fn a_fit_begins_with_first_recalls() {
+    let defaults = check_and_fill_parameters(&[]).expect("the defaults");
+    for seed in [1, 2, 3] {
+        let text = deck(seed).expect("a generated deck");
+        let trainer = Trainer::new(&parsed(&text)).expect("a trainer");
+        let found = starts(&parsed(&text), &defaults).expect("starts");
+        assert_eq!(trainer.starts, found);
+        assert_eq!(found.iter().map(|x| x.rating).collect::<Vec<_>>(), [1, 2, 3, 4]);
+        for x in found {
+            let Recalls { days, shares, counts } = parsed(&text).recalls(x.rating);
+            assert_eq!(initial_stability(&days, &shares, &counts, x.default.into()), Ok(x.found));
+            assert!(x.default == defaults[x.rating - 1] && (0.0001..=100.0).contains(&x.found), "{x:?}");
+        }
+        let told = format!("weights {}\n{text}", LEARNER.map(|x| x.to_string()).join(" "));
+        assert!(Trainer::new(&parsed(&told)).expect("a trainer").starts.is_empty());
+    }
+    // one forgotten card puts its stability at the lower end, and the fit is no worse than at the defaults
+    let small = parsed("0 3\n1 1\n1 1\n1 1\n");
+    let trainer = Trainer::new(&small).expect("a trainer");
+    assert_eq!((trainer.starts.len(), trainer.starts[0].found), (1, 0.0001));
+    let (found, _) = fitted(&small);
+    assert!(found.best.loss + found.best.pull <= found.first.loss + found.first.pull);
 }
 
 #[test]

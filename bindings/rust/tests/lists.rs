@@ -25,6 +25,10 @@ impl Words<'_> {
         self.numbers(n)
     }
 
+    fn doubles(&mut self) -> Vec<f64> {
+        self.slice().into_iter().map(f64::from_bits).collect()
+    }
+
     fn singles(&mut self) -> Vec<f32> {
         self.slice().into_iter().map(single).collect()
     }
@@ -71,7 +75,7 @@ fn run(name: &str, try_line: impl Fn(char, &mut Words, &[f32], &[f64]) -> Option
         let mut words = Words(line[1..].split_ascii_whitespace());
         match letter {
             'w' => w = words.singles(),
-            'g' => slots = words.slice().into_iter().map(f64::from_bits).collect(),
+            'g' => slots = words.doubles(),
             _ => {
                 if let Some((is, want)) = try_line(letter, &mut words, &w, &slots) {
                     assert_eq!(is, want, "{name}:{}", i + 1);
@@ -143,6 +147,20 @@ fn penalty() {
         let answer = words.rest();
         let (value, want) = if refusal == 0 { (vec![answer[0]], answer[1..].to_vec()) } else { (vec![], given) };
         Some(((is.0, [is.1, left].concat()), (refusal, [value, want].concat())))
+    });
+}
+
+#[test]
+fn initial() {
+    run("initial", |letter, words, _, _| {
+        if letter != 'S' {
+            return None; // the derivatives are no function of the library
+        }
+        let default = f64::from_bits(words.number());
+        let (days, shares, counts) = (words.doubles(), words.doubles(), words.doubles());
+        let (refusal, answer) = (words.number(), words.rest());
+        let is = outcome(initial_stability(&days, &shares, &counts, default), |x| vec![single_bits(x)]);
+        Some((is, (refusal, if refusal == 0 { answer } else { vec![] })))
     });
 }
 

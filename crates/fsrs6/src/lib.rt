@@ -3,6 +3,7 @@
 pub mod arithmetic;
 pub mod cards;
 pub mod file;
+pub mod initialization;
 pub mod penalty;
 mod places;
 pub mod prefixes;

@@ -37,6 +37,7 @@ use Rattle.fsrs6.proofs.cards.fsrs_card_loss_and_grad_in
 use Rattle.fsrs6.proofs.cards.fsrs_card_loss
 use Rattle.fsrs6.proofs.cards.fsrs_card_loss_in
 use Rattle.fsrs6.proofs.penalty.fsrs_l2_penalty
+use Rattle.fsrs6.proofs.initialization.fsrs_initial_stability
 use Rattle.fsrs6.proofs.file.fsrs_batch_file
 use Rattle.fsrs6.proofs.file.fsrs_batch_file_fault
 use Rattle.fsrs6.proofs.why.fsrs_explain_step
@@ -160,6 +161,10 @@ one-fsrs-card-loss-in = one (λ κs a o c. c .0 ⨾ none ⨾ none ⨾ none ⨾ n
 -- fsrs6::penalty
 pub one-fsrs-l2-penalty : One fsrs_l2_penalty.Kinds.ps fsrs_l2_penalty.Kinds.r fsrs_l2_penalty.Reads.Post
 one-fsrs-l2-penalty = one (λ κs a o c. c .0 ⨾ none ⨾ none ⨾ none ⨾ none ⨾ none ⨾ none ⨾ c .2 ⨾ c .1 ⨾ end)
+
+-- fsrs6::initialization
+pub one-fsrs-initial-stability : One fsrs_initial_stability.Kinds.ps fsrs_initial_stability.Kinds.r fsrs_initial_stability.Reads.Post
+one-fsrs-initial-stability = one (λ κs a o c. c .0 ⨾ none ⨾ none ⨾ none ⨾ none ⨾ c .1 ⨾ end)
 
 -- fsrs6::file
 pub one-fsrs-batch-file : One fsrs_batch_file.Kinds.ps fsrs_batch_file.Kinds.r fsrs_batch_file.Reads.Post

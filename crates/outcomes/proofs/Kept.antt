@@ -35,6 +35,7 @@ use Rattle.fsrs6.proofs.cards.fsrs_card_loss_and_grad_in
 use Rattle.fsrs6.proofs.cards.fsrs_card_loss
 use Rattle.fsrs6.proofs.cards.fsrs_card_loss_in
 use Rattle.fsrs6.proofs.penalty.fsrs_l2_penalty
+use Rattle.fsrs6.proofs.initialization.fsrs_initial_stability
 use Rattle.fsrs6.proofs.file.fsrs_batch_file
 
 -- These lend by `&mut` and have no refusal: what each leaves is stated by its contract, for every call.
@@ -152,6 +153,10 @@ kept-fsrs-card-loss-in = keeps (λ κs a o c. c .0) (λ κs a o c h. still ⨾ s
 -- fsrs6::penalty
 pub kept-fsrs-l2-penalty : Kept fsrs_l2_penalty.Kinds.ps fsrs_l2_penalty.Kinds.r (λ κs a n. n) (λ κs e. e) fsrs_l2_penalty.Reads.Post
 kept-fsrs-l2-penalty = keeps (λ κs a o c. c .0) (λ κs a o c h. still ⨾ still ⨾ still ⨾ still ⨾ still ⨾ still ⨾ back (c .2 ∙ search refused) ⨾ back (c .1 ∙ search refused) ⨾ end)
+
+-- fsrs6::initialization
+pub kept-fsrs-initial-stability : Kept fsrs_initial_stability.Kinds.ps fsrs_initial_stability.Kinds.r (λ κs a n. n) (λ κs e. e) fsrs_initial_stability.Reads.Post
+kept-fsrs-initial-stability = keeps (λ κs a o c. c .0) (λ κs a o c h. still ⨾ still ⨾ still ⨾ still ⨾ back (c .1 ∙ search refused) ⨾ end)
 
 -- fsrs6::file
 pub kept-fsrs-batch-file : Kept fsrs_batch_file.Kinds.ps fsrs_batch_file.Kinds.r (λ κs a n. n) (λ κs e. e) fsrs_batch_file.Reads.Post

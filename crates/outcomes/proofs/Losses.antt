@@ -1,4 +1,4 @@
--- One outcome: the losses, their checks, tables and records, the pull toward the old weights, and the batch file. A line for each function: its answer, then each parameter in turn. Assumes nothing.
+-- One outcome: the losses, their checks, tables and records, the pull toward the old weights, a starting stability, and the batch file. A line for each function: its answer, then each parameter in turn. Assumes nothing.
 use Rattle.outcomes.specs.Outcome.{One, one}
 use Rattle.outcomes.proofs.Tuples.{_⨾_, none, end}
 use Rattle.soft.proofs.flags.either
@@ -46,6 +46,8 @@ use Rattle.analytic_v6.proofs.cards.loss.card_loss
 use Rattle.analytic_v6.proofs.cards.loss.card_loss_in
 use Rattle.training_v7.proofs.penalty.l2_penalty_value_and_grad
 use Rattle.batch.proofs.fault.file_fault
+use Rattle.parameter_initialization.proofs.derivatives.loss_derivatives
+use Rattle.parameter_initialization.proofs.stability.initial_stability
 use Rattle.batch.proofs.run_file
 
 -- soft::flags
@@ -198,6 +200,14 @@ one-card-loss-in = one (λ κs a o c. c ⨾ none ⨾ none ⨾ none ⨾ none ⨾ 
 -- training_v7::penalty
 pub one-l2-penalty-value-and-grad : One l2_penalty_value_and_grad.Kinds.ps l2_penalty_value_and_grad.Kinds.r l2_penalty_value_and_grad.Reads.Post
 one-l2-penalty-value-and-grad = one (λ κs a o c. c .0 ⨾ none ⨾ none ⨾ none ⨾ none ⨾ none ⨾ none ⨾ c .1 ⨾ end)
+
+-- parameter_initialization::derivatives
+pub one-loss-derivatives : One loss_derivatives.Kinds.ps loss_derivatives.Kinds.r loss_derivatives.Reads.Post
+one-loss-derivatives = one (λ κs a o c. c ⨾ none ⨾ none ⨾ none ⨾ none ⨾ end)
+
+-- parameter_initialization::stability
+pub one-initial-stability : One initial_stability.Kinds.ps initial_stability.Kinds.r initial_stability.Reads.Post
+one-initial-stability = one (λ κs a o c. c ⨾ none ⨾ none ⨾ none ⨾ none ⨾ end)
 
 -- batch
 pub one-run-file : One run_file.Kinds.ps run_file.Kinds.r run_file.Reads.Post

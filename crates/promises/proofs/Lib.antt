@@ -14,6 +14,7 @@ pub mod Layouts
 pub mod Pulled
 pub mod Reasoned
 pub mod Rows
+pub mod Starting
 pub mod Weightless
 pub mod Twelve
 pub mod Promises

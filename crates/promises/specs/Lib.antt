@@ -11,4 +11,5 @@ pub mod LossCalls
 pub mod Promises
 pub mod Reasoned
 pub mod Rows
+pub mod Starting
 pub mod Twelve

@@ -14,6 +14,7 @@ use Rattle.promises.specs.Layouts.{TwoLayouts}
 use Rattle.promises.specs.Pulled.{Pulled}
 use Rattle.promises.specs.Reasoned.{Reasoned}
 use Rattle.promises.specs.Rows.{Rows}
+use Rattle.promises.specs.Starting.{Starting}
 
 pub record Promises : Type 0 where
   -- demand 2: exp, ln and pow 'lie within document 01's distances of its exact fractions', in single and in double (laws/specs/Distances.antt)
@@ -41,3 +42,5 @@ pub record Promises : Type 0 where
   -- change request K7: why a card moved (Reasoned.antt), and why a loss call is refused and where (FirstFault.antt)
   pub why-it-moved : Reasoned
   pub first-at-fault : FirstFault
+  -- change request K6: a starting stability from first recalls lies between 0.0001 and 100 (Starting.antt)
+  pub starting-stability : Starting

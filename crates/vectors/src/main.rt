@@ -5,6 +5,7 @@ mod arithmetic;
 mod counts;
 mod digests;
 mod explained;
+mod initial;
 mod line;
 mod losses;
 mod patterns;
@@ -34,6 +35,7 @@ enum Kind {
     Losses,
     Penalty,
     Explained,
+    Initial,
 }
 
 // No list has so many bytes, and no line more words.
@@ -53,6 +55,7 @@ fn is_call(kind: Kind, letter: u8, k: &[u64; 640], n: usize) -> bool {
         Kind::Losses => losses::is_call(k, n),
         Kind::Penalty => penalty::is_call(k, n),
         Kind::Explained => explained::is_call(letter, k, n),
+        Kind::Initial => initial::is_call(k, n),
     }
 }
 
@@ -72,6 +75,7 @@ fn call_passes(
         Kind::Losses => losses::passes(letter, k, w, slots),
         Kind::Penalty => penalty::passes(k, w),
         Kind::Explained => explained::passes(letter, k, w),
+        Kind::Initial => initial::passes(letter, k),
     }
 }
 
@@ -221,5 +225,11 @@ fn main() {
         b"explain",
         b"E0123",
         b"explain_step batch_loss_and_grad_fault batch_loss_fault card_loss_and_grad_fault card_loss_fault malformed ",
+    );
+    run_list(
+        Kind::Initial,
+        b"initial",
+        b"DS",
+        b"loss_derivatives initial_stability malformed ",
     );
 }

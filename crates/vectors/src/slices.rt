@@ -33,6 +33,13 @@ pub fn first_of(xs: &[f32], n: usize) -> &[f32] {
     xs
 }
 
+pub fn first_doubles(xs: &[f64], n: usize) -> &[f64] {
+    if n < xs.len() {
+        return &xs[0..n];
+    }
+    xs
+}
+
 pub fn set_singles(k: &[u64; 640], at: usize, to: &mut [f32; 128]) {
     let mut i = 0;
     while i < 128 {

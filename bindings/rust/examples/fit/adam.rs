@@ -1,6 +1,7 @@
 //! Adam over a deck's loss and the pull toward the default weights.
 
 use super::deck::{Batch, Deck};
+use super::start::{starts, Start};
 use fsrs6::{check_and_fill_parameters, l2_penalty, Gradient, Refusal, WEIGHTS};
 
 /// How far a weight lies from its default over many learners, by fsrs-rs's own trainer of FSRS-6: training_v6.rs,
@@ -47,7 +48,7 @@ impl Found {
     }
 }
 
-/// What a run comes to.
+/// What a run comes to: at the defaults, or at the weights of the text, and at the best.
 #[derive(Clone, Copy, Debug)]
 pub struct Fitted {
     pub first: Found,
@@ -58,7 +59,10 @@ pub struct Fitted {
 pub struct Trainer {
     batches: Vec<Batch>,
     defaults: [f32; WEIGHTS],
+    first: [f32; WEIGHTS],
     start: [f32; WEIGHTS],
+    /// What the deck's first recalls give to begin with; nothing where the text says where to begin.
+    pub starts: Vec<Start>,
     /// Which weights the deck reads; the others are frozen.
     pub reads: [bool; WEIGHTS],
     /// How many reviews are scored.
@@ -91,8 +95,14 @@ impl Trainer {
     pub fn new(deck: &Deck) -> Result<Trainer, Refusal> {
         let (batches, defaults) = (deck.batches(), check_and_fill_parameters(&[])?);
         let total = batches.iter().map(|batch| batch.size).sum();
-        let start = deck.weights.unwrap_or(defaults);
-        Ok(Trainer { batches, defaults, start, reads: deck.reads(), total, gradient: Gradient::default() })
+        let first = deck.weights.unwrap_or(defaults);
+        let starts = if deck.weights.is_some() { Vec::new() } else { starts(deck, &defaults)? };
+        let mut start = first;
+        for x in &starts {
+            start[x.rating - 1] = x.found;
+        }
+        let (reads, gradient) = (deck.reads(), Gradient::default());
+        Ok(Trainer { batches, defaults, first, start, starts, reads, total, gradient })
     }
 
     /// The loss and the pull at w; their gradient is left in the slots. Each batch has its share of the pull, by its size. The
@@ -120,11 +130,12 @@ impl Trainer {
         }
     }
 
-    /// Steps until nothing is better for a while, and tells each. Of all weights that were met it keeps the best, since a
-    /// step may lead uphill; where it got stuck it goes on from there with half the rate.
+    /// Steps until nothing is better for a while, and tells each. Of all weights that were met, the first ones among them, it
+    /// keeps the best, since a step may lead uphill; where it got stuck it goes on from there with half the rate.
     pub fn run(&mut self, mut tell: impl FnMut(u32, &Found, &Found)) -> Result<Fitted, Refusal> {
-        let first = self.at(self.start)?;
-        let (mut best, mut w, mut memory) = (first, self.start, Memory::new());
+        let (first, start) = (self.at(self.first)?, self.at(self.start)?);
+        let mut best = if start.sum() <= first.sum() { start } else { first };
+        let (mut w, mut memory) = (self.start, Memory::new());
         let (mut rate, mut waited, mut steps) = (RATE, 0, 0);
         while steps < MOST_STEPS && rate >= LAST_RATE {
             self.step(&mut w, &mut memory, rate);

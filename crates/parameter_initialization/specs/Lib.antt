@@ -1,0 +1,3 @@
+pub mod Derivatives
+pub mod Search
+pub mod Start
