@@ -1,4 +1,4 @@
-/* Runs lists of vectors through the C functions: lists ARITHMETIC STUDY STEP PENALTY INITIAL LOSSES.., files of
+/* Runs lists of vectors through the C functions: lists ARITHMETIC STUDY STEP PENALTY INITIAL EXPLAIN LOSSES.., files of
  * crates/vectors/data. Their answers come from a second reading of the rules; the scripts in tools/vectors say what a line
  * holds. Lines about what is no C function are left out. After a refused call what was lent must have the bits that it had. */
 #include "../../include/fsrs6.h"
@@ -255,23 +255,31 @@ static size_t lend_step_grads(uint64_t n, uint64_t first) {
     return count;
 }
 
+/* The tables of a call, and what stands behind them. */
+static struct slice t, r, days, labels, weights;
+static uint32_t rows, columns, lengths[FSRS_MAX_COLUMNS];
+static size_t lengths_len;
+
+#define TABLES w, w_len, t.at, t.n, r.at, r.n, rows, columns, lengths, lengths_len
+#define SCORED labels.at, labels.n, weights.at, weights.n
+
+static const uint64_t *take_call(void) {
+    rows = (uint32_t)words[0], columns = (uint32_t)words[1];
+    const uint64_t *at = take_slice(&r, take_slice(&t, words + 2));
+    lengths_len = at[0] < FSRS_MAX_COLUMNS ? (size_t)at[0] : FSRS_MAX_COLUMNS;
+    for (size_t i = 0; i < lengths_len; i++) {
+        lengths[i] = (uint32_t)at[1 + i];
+    }
+    return take_slice(&weights, take_slice(&labels, take_slice(&days, at + 1 + at[0])));
+}
+
 static void loss_line(char letter) {
-    static struct slice t, r, days, labels, weights;
-    static uint32_t lengths[FSRS_MAX_COLUMNS];
     if (letter < '0' || letter > '7') {
         return;
     }
-    uint32_t rows = (uint32_t)words[0], columns = (uint32_t)words[1];
-    const uint64_t *at = take_slice(&r, take_slice(&t, words + 2));
-    size_t n = at[0] < FSRS_MAX_COLUMNS ? (size_t)at[0] : FSRS_MAX_COLUMNS;
-    for (size_t i = 0; i < n; i++) {
-        lengths[i] = (uint32_t)at[1 + i];
-    }
-    at = take_slice(&weights, take_slice(&labels, take_slice(&days, at + 1 + at[0])));
+    const uint64_t *at = take_call();
     size_t records = lend_records(at[0], at[1]), step_grads = lend_step_grads(at[2], at[3]);
     memcpy(&before, &lent, sizeof lent);
-#define TABLES w, w_len, t.at, t.n, r.at, r.n, rows, columns, lengths, n
-#define SCORED labels.at, labels.n, weights.at, weights.n
     uint32_t refusal;
     switch (letter) {
     case '0':
@@ -355,6 +363,44 @@ static void initial_line(char letter) {
     }
 }
 
+/* ---- why a card moved, and where a call is at fault. A list counts records, C the singles of them */
+
+static void fault_line(char letter) {
+    const uint64_t *at = take_call();
+    size_t slots = (size_t)at[1], records = FSRS_RECORD * (size_t)at[2], step_grads = (size_t)at[3];
+    fsrs_fault f;
+    switch (letter) {
+    case '0':
+        f = fsrs_batch_loss_and_grad_fault(at[0] != 0, TABLES, days.at, days.n, SCORED, slots, records);
+        break;
+    case '1':
+        f = fsrs_batch_loss_fault(at[0] != 0, TABLES, days.at, days.n, SCORED);
+        break;
+    case '2':
+        f = fsrs_card_loss_and_grad_fault(at[0] != 0, TABLES, SCORED, slots, records, step_grads);
+        break;
+    default:
+        f = fsrs_card_loss_fault(at[0] != 0, TABLES, SCORED);
+    }
+    expect_bits("refusal", f.refusal, at[4]);
+    expect_bits("column", f.column, at[5]);
+    expect_bits("row", f.row, at[6]);
+}
+
+static void explain_line(char letter) {
+    if (letter >= '0' && letter <= '3') {
+        fault_line(letter);
+    } else if (letter == 'E') {
+        float a[4];
+        take_singles(a, words, 4);
+        fsrs_reason q = fsrs_explain_step(w, w_len, a[0], a[1], a[2], a[3], (size_t)words[4]);
+        expect_bits("refusal", q.refusal, words[5]);
+        expect_bits("reason", q.reason, words[6]);
+        expect_bits("stability held", q.stability_held, words[7]);
+        expect_bits("difficulty held", q.difficulty_held, words[8]);
+    }
+}
+
 /* ---- the files */
 
 static void take_words(const char *text) {
@@ -392,8 +438,8 @@ static void run(const char *name, void (*try)(char)) {
 }
 
 int main(int argc, char **argv) {
-    if (argc < 7) {
-        fputs("usage: lists ARITHMETIC STUDY STEP PENALTY INITIAL LOSSES..\n", stderr);
+    if (argc < 8) {
+        fputs("usage: lists ARITHMETIC STUDY STEP PENALTY INITIAL EXPLAIN LOSSES..\n", stderr);
         return 2;
     }
     run(argv[1], arithmetic_line);
@@ -401,7 +447,8 @@ int main(int argc, char **argv) {
     run(argv[3], step_line);
     run(argv[4], penalty_line);
     run(argv[5], initial_line);
-    for (int i = 6; i < argc; i++) {
+    run(argv[6], explain_line);
+    for (int i = 7; i < argc; i++) {
         run(argv[i], loss_line);
     }
     return finish();
