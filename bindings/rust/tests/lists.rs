@@ -217,29 +217,58 @@ fn digest(slots: &[f64], records: &[f32], step_grads: &[f64]) -> u64 {
     })
 }
 
+/// The tables of a loss's line.
+struct Tables {
+    rows: u32,
+    columns: u32,
+    days: Vec<f32>,
+    ratings: Vec<f32>,
+    lengths: Vec<u32>,
+    target_days: Vec<f32>,
+    labels: Vec<f32>,
+    weights: Vec<f32>,
+}
+
+impl Tables {
+    fn read(words: &mut Words) -> Tables {
+        Tables {
+            rows: words.number() as u32,
+            columns: words.number() as u32,
+            days: words.singles(),
+            ratings: words.singles(),
+            lengths: words.slice().into_iter().map(|n| n as u32).collect(),
+            target_days: words.singles(),
+            labels: words.singles(),
+            weights: words.singles(),
+        }
+    }
+
+    fn prefixes(&self, align: Align) -> Prefixes<'_> {
+        let Tables { rows, columns, days, ratings, lengths, target_days, labels, weights } = self;
+        Prefixes { rows: *rows, columns: *columns, days, ratings, lengths, target_days, labels, weights, align }
+    }
+
+    fn cards(&self, align: Align) -> Cards<'_> {
+        let Tables { rows, columns, days, ratings, lengths, labels, weights, .. } = self;
+        Cards { rows: *rows, columns: *columns, days, ratings, lengths, labels, weights, align }
+    }
+}
+
 /// A list of losses: 0 to 3 at the start, 4 to 7 the same at the end.
 fn run_losses(name: &str) {
     run(name, |letter, words, w, slots| {
         let align = if letter < '4' { Align::Start } else { Align::End };
-        let (rows, columns) = (words.number() as u32, words.number() as u32);
-        let (days, ratings) = (words.singles(), words.singles());
-        let lengths: Vec<u32> = words.slice().into_iter().map(|n| n as u32).collect();
-        let (target_days, labels, weights) = (words.singles(), words.singles(), words.singles());
+        let tables = Tables::read(words);
         let (n, first) = (words.number(), words.number());
         let mut records: Vec<f32> = (0..n).map(|i| single(first.wrapping_add(i))).collect();
         let (n, first) = (words.number(), words.number());
         let mut step_grads: Vec<f64> = (0..n).map(|i| f64::from_bits(first.wrapping_add(i))).collect();
-        let [days, ratings, target_days, labels, weights] =
-            [&days, &ratings, &target_days, &labels, &weights].map(|x| &x[..]);
-        let lengths = &lengths[..];
-        let prefixes = Prefixes { rows, columns, days, ratings, lengths, target_days, labels, weights, align };
-        let cards = Cards { rows, columns, days, ratings, lengths, labels, weights, align };
         let mut gw = slots.to_vec();
         let answer = match letter {
-            '0' | '4' => batch_loss_and_grad(w, &prefixes, &mut gw, &mut records),
-            '1' | '5' => batch_loss(w, &prefixes),
-            '2' | '6' => card_loss_and_grad(w, &cards, &mut gw, &mut records, &mut step_grads),
-            '3' | '7' => card_loss(w, &cards),
+            '0' | '4' => batch_loss_and_grad(w, &tables.prefixes(align), &mut gw, &mut records),
+            '1' | '5' => batch_loss(w, &tables.prefixes(align)),
+            '2' | '6' => card_loss_and_grad(w, &tables.cards(align), &mut gw, &mut records, &mut step_grads),
+            '3' | '7' => card_loss(w, &tables.cards(align)),
             _ => return None,
         };
         let is_alone = "1357".contains(letter);
@@ -247,6 +276,34 @@ fn run_losses(name: &str) {
         let is = (answer.map_or_else(|x| x.number().into(), |_| 0), vec![double_bits(answer.unwrap_or(0.0)), left]);
         let want = (words.number(), words.numbers(2));
         Some((is, want))
+    });
+}
+
+/// Reasons and ends of steps, and the faults of loss calls. A list counts records, and these functions the singles of them.
+#[test]
+fn explain() {
+    run("explain", |letter, words, w, _| {
+        if letter == 'E' {
+            let a = words.rest();
+            let state = State { stability: single(a[0]), difficulty: single(a[1]) };
+            let step = Step { state, day: single(a[2]), rating: single(a[3]), row: a[4] as usize };
+            let is = outcome(explain_step(w, step), |x| {
+                [x.reason.number(), x.stability_held.number(), x.difficulty_held.number()].map(u64::from).to_vec()
+            });
+            return Some((is, (a[5], if a[5] == 0 { a[6..].to_vec() } else { vec![] })));
+        }
+        let (tables, a) = (Tables::read(words), words.rest());
+        let align = if a[0] == 0 { Align::Start } else { Align::End };
+        let (slots, records, step_grads) = (a[1] as usize, RECORD * a[2] as usize, a[3] as usize);
+        let fault = match letter {
+            '0' => batch_loss_and_grad_fault(w, &tables.prefixes(align), slots, records),
+            '1' => batch_loss_fault(w, &tables.prefixes(align)),
+            '2' => card_loss_and_grad_fault(w, &tables.cards(align), slots, records, step_grads),
+            '3' => card_loss_fault(w, &tables.cards(align)),
+            _ => return None,
+        };
+        let place = fault.and_then(|x| x.place).map_or(vec![0, 0], |x| vec![x.column.into(), x.row.into()]);
+        Some(((fault.map_or(0, |x| x.refusal.number().into()), place), (a[4], a[5..].to_vec())))
     });
 }
 
