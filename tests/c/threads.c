@@ -84,8 +84,12 @@ static void formulas(struct round *x) {
     uint32_t first_day = any(x) % 1000, day;
     accept(x, fsrs_next_state_on(W, x->s, x->d, first_day, first_day + any(x) % 400, x->rating, &a[14], &a[15], &day));
     accept(x, fsrs_memory_state_from_sm2(W, ease, interval, retention, &a[12], &a[13]));
+    uint32_t verdict;
+    accept(x, fsrs_check_row(W, x->s, x->d, x->day, x->rating, retention, (uint32_t)single_bits(a[10]),
+                             (uint32_t)single_bits(a[11]), any(x), &verdict));
     see_singles(x, filled, FSRS_WEIGHTS);
     see(x, day);
+    see(x, verdict);
     see_singles(x, a, sizeof a / sizeof *a);
 }
 
@@ -96,10 +100,22 @@ static void steps(struct round *x) {
     accept(x, fsrs_training_step(W, x->s, x->d, x->day, rating, row, &next[0], &next[1], record));
     accept(x, fsrs_training_step_backward(W, x->s, x->d, x->day, rating, row, next[0], next[1], 0.5, gw, FSRS_WEIGHTS,
                                           &before[0], &before[1]));
+    fsrs_reason reason = fsrs_explain_step(W, x->s, x->d, x->day, rating, row);
+    accept(x, reason.refusal);
+    see(x, reason.reason);
+    see(x, reason.stability_held);
+    see(x, reason.difficulty_held);
     see_singles(x, next, 2);
     see_singles(x, record, FSRS_RECORD);
     see_doubles(x, before, 2);
     see_doubles(x, gw, FSRS_WEIGHTS);
+}
+
+/* Of a call with a bad cell, which is refused. */
+static void see_fault(struct round *x, fsrs_fault f) {
+    see(x, f.refusal);
+    see(x, f.column);
+    see(x, f.row);
 }
 
 static void losses(struct round *x) {
@@ -127,6 +143,11 @@ static void losses(struct round *x) {
     accept(x, fsrs_batch_loss_and_grad_in(end, TABLES, days, CELLS, SCORED, LENT, &loss[5]));
     accept(x, fsrs_card_loss_in(end, TABLES, SCORED, &loss[6]));
     accept(x, fsrs_card_loss_and_grad_in(end, TABLES, SCORED, LENT, step_grads, ROWS, &loss[7]));
+    ratings[any(x) % CELLS] = 7;
+    see_fault(x, fsrs_batch_loss_fault(end, TABLES, days, CELLS, SCORED));
+    see_fault(x, fsrs_batch_loss_and_grad_fault(end, TABLES, days, CELLS, SCORED, FSRS_WEIGHTS, FSRS_RECORD * ROWS));
+    see_fault(x, fsrs_card_loss_fault(end, TABLES, SCORED));
+    see_fault(x, fsrs_card_loss_and_grad_fault(end, TABLES, SCORED, FSRS_WEIGHTS, FSRS_RECORD * ROWS, ROWS));
     see_doubles(x, loss, 8);
     see_doubles(x, gw, FSRS_WEIGHTS);
     see_doubles(x, step_grads, ROWS);
@@ -165,6 +186,7 @@ static void file(struct round *x) {
         gw[k] = between(x, -1, 1);
     }
     accept(x, fsrs_batch_file(files[i], file_lens[i], gw, FSRS_WEIGHTS, &loss));
+    accept(x, fsrs_batch_file_fault(files[i], file_lens[i]).refusal);
     see_doubles(x, &loss, 1);
     see_doubles(x, gw, FSRS_WEIGHTS);
 }
