@@ -34,9 +34,9 @@ unfolding longest_def most
 longest_rows lengths rows zero = zero-le
 longest_rows lengths rows (suc c) = either_of _ _ rows (leb (longest_def lengths rows c) (cut_at lengths rows c)) (longest_rows lengths rows c) (cut_rows lengths rows c)
 
-rows_of : (file : List ℕ) → well_formed_def file ≡ true → (sections_of file).rows ≤ rows_of
+rows_under : (file : List ℕ) → well_formed_def file ≡ true → (sections_of file).rows ≤ rows_of
 unfolding well_formed_def sections_def
-rows_of file w = rows_small (word_at_def file 0) (word_at_def file 1) (length file) (left_of _ (placed file (sections_of file)) w)
+rows_under file w = rows_small (word_at_def file 0) (word_at_def file 1) (length file) (left_of _ (placed file (sections_of file)) w)
 
 pub room_for : (file : List ℕ) → well_formed_def file ≡ true → (lengths : List ℕ) (columns : ℕ) → longest_def lengths (sections_of file).rows columns ≤ rows_of
-room_for file w lengths columns = le_trans (longest_rows lengths (sections_of file).rows columns) (rows_of file w)
+room_for file w lengths columns = le_trans (longest_rows lengths (sections_of file).rows columns) (rows_under file w)

@@ -1,4 +1,6 @@
 // A batch file, run as the one call that it holds.
+#![tactic(auto)]
+
 pub mod fault;
 pub mod header;
 mod layout;

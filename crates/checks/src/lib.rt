@@ -1,5 +1,7 @@
 // What a loss call is refused for, before anything of it is worked: which cells it reads, the first of these that is bad, and
 // the sizes.
+#![tactic(auto)]
+
 pub mod align;
 pub mod fault;
 mod faults;

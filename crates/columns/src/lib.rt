@@ -1,4 +1,6 @@
 // One column of a batch: its rows forward, its last review, its records, and its rows backward.
+#![tactic(auto)]
+
 pub mod backward_pass;
 pub mod forward_pass;
 pub mod last_review;

@@ -13,78 +13,67 @@ use kernels::pow::{pow_f32, pow_f64};
 use soft::fma::{fma_f32, fma_f64};
 use soft::half_away::{round_f32, round_f64};
 
-#[unsafe(no_mangle)]
-pub extern "C" fn fsrs_exp_f32(x: f32) -> f32
+pub fn fsrs_exp_f32(x: f32) -> f32
     ensures { result ≡ exp_def binary32 x }
 {
     exp_f32(x)
 }
 
-#[unsafe(no_mangle)]
-pub extern "C" fn fsrs_exp_f64(x: f64) -> f64
+pub fn fsrs_exp_f64(x: f64) -> f64
     ensures { result ≡ exp_def binary64 x }
 {
     exp_f64(x)
 }
 
-#[unsafe(no_mangle)]
-pub extern "C" fn fsrs_expm1_f32(x: f32) -> f32
+pub fn fsrs_expm1_f32(x: f32) -> f32
     ensures { result ≡ expm1_def x }
 {
     expm1_f32(x)
 }
 
-#[unsafe(no_mangle)]
-pub extern "C" fn fsrs_ln_f32(x: f32) -> f32
+pub fn fsrs_ln_f32(x: f32) -> f32
     ensures { result ≡ ln_def binary32 x }
 {
     ln_f32(x)
 }
 
-#[unsafe(no_mangle)]
-pub extern "C" fn fsrs_ln_f64(x: f64) -> f64
+pub fn fsrs_ln_f64(x: f64) -> f64
     ensures { result ≡ ln_def binary64 x }
 {
     ln_f64(x)
 }
 
-#[unsafe(no_mangle)]
-pub extern "C" fn fsrs_pow_f32(x: f32, y: f32) -> f32
+pub fn fsrs_pow_f32(x: f32, y: f32) -> f32
     ensures { result ≡ pow_def binary32 x y }
 {
     pow_f32(x, y)
 }
 
-#[unsafe(no_mangle)]
-pub extern "C" fn fsrs_pow_f64(x: f64, y: f64) -> f64
+pub fn fsrs_pow_f64(x: f64, y: f64) -> f64
     ensures { result ≡ pow_def binary64 x y }
 {
     pow_f64(x, y)
 }
 
-#[unsafe(no_mangle)]
-pub extern "C" fn fsrs_fma_f32(x: f32, y: f32, z: f32) -> f32
+pub fn fsrs_fma_f32(x: f32, y: f32, z: f32) -> f32
     ensures { result ≡ fma_def binary32 x y z }
 {
     fma_f32(x, y, z)
 }
 
-#[unsafe(no_mangle)]
-pub extern "C" fn fsrs_fma_f64(x: f64, y: f64, z: f64) -> f64
+pub fn fsrs_fma_f64(x: f64, y: f64, z: f64) -> f64
     ensures { result ≡ fma_def binary64 x y z }
 {
     fma_f64(x, y, z)
 }
 
-#[unsafe(no_mangle)]
-pub extern "C" fn fsrs_round_f32(x: f32) -> f32
+pub fn fsrs_round_f32(x: f32) -> f32
     ensures { result ≡ round_def binary32 x }
 {
     round_f32(x)
 }
 
-#[unsafe(no_mangle)]
-pub extern "C" fn fsrs_round_f64(x: f64) -> f64
+pub fn fsrs_round_f64(x: f64) -> f64
     ensures { result ≡ round_def binary64 x }
 {
     round_f64(x)

@@ -12,8 +12,7 @@ use analytic_v6::cards::grad_columns::{card_loss_and_grad_columns, card_loss_and
 use analytic_v6::cards::loss::{card_loss, card_loss_in};
 use checks::align::align_of;
 
-#[unsafe(no_mangle)]
-pub extern "C" fn fsrs_card_loss(
+pub fn fsrs_card_loss(
     w: &[f32],
     t_hist: &[f32],
     r_hist: &[f32],
@@ -32,8 +31,7 @@ pub extern "C" fn fsrs_card_loss(
     a.refusal
 }
 
-#[unsafe(no_mangle)]
-pub extern "C" fn fsrs_card_loss_and_grad(
+pub fn fsrs_card_loss_and_grad(
     w: &[f32],
     t_hist: &[f32],
     r_hist: &[f32],
@@ -61,8 +59,7 @@ pub extern "C" fn fsrs_card_loss_and_grad(
     graded.refusal
 }
 
-#[unsafe(no_mangle)]
-pub extern "C" fn fsrs_card_loss_in(
+pub fn fsrs_card_loss_in(
     end: bool,
     w: &[f32],
     t_hist: &[f32],
@@ -92,8 +89,7 @@ pub extern "C" fn fsrs_card_loss_in(
     a.refusal
 }
 
-#[unsafe(no_mangle)]
-pub extern "C" fn fsrs_card_loss_and_grad_in(
+pub fn fsrs_card_loss_and_grad_in(
     end: bool,
     w: &[f32],
     t_hist: &[f32],

@@ -8,8 +8,7 @@ use batch::fault::file_fault;
 use batch::run_file;
 use checks::fault::Fault;
 
-#[unsafe(no_mangle)]
-pub extern "C" fn fsrs_batch_file(file: &[u8], gw: &mut [f64], loss: &mut f64) -> u32
+pub fn fsrs_batch_file(file: &[u8], gw: &mut [f64], loss: &mut f64) -> u32
     ensures { Answered (file_loss file.now (length gw.old)) result loss.old loss.new ×
         (gw.new ≡ file_slots_def file.now gw.old) }
 {
@@ -19,8 +18,7 @@ pub extern "C" fn fsrs_batch_file(file: &[u8], gw: &mut [f64], loss: &mut f64) -
 }
 
 // By value: there is nothing to write, so that a refused file writes nothing.
-#[unsafe(no_mangle)]
-pub extern "C" fn fsrs_batch_file_fault(file: &[u8]) -> Fault
+pub fn fsrs_batch_file_fault(file: &[u8]) -> Fault
     ensures { result ≡ file_fault_def file.now }
 {
     file_fault(file)

@@ -6,8 +6,7 @@ ghost use Rattle.std.specs.Prelude.{◌≡◌};
 use crate::places::put_f32;
 use parameter_initialization::stability::initial_stability;
 
-#[unsafe(no_mangle)]
-pub extern "C" fn fsrs_initial_stability(
+pub fn fsrs_initial_stability(
     delta_t: &[f64],
     recall: &[f64],
     count: &[f64],

@@ -6,8 +6,7 @@ ghost use Rattle.std.specs.Prelude.{◌≡◌, length};
 use crate::places::put_f64;
 use training_v7::penalty::l2_penalty_value_and_grad;
 
-#[unsafe(no_mangle)]
-pub extern "C" fn fsrs_l2_penalty(
+pub fn fsrs_l2_penalty(
     w: &[f32],
     init_w: &[f32],
     batch_size: u64,

@@ -14,8 +14,7 @@ use analytic_v6::prefixes::grad_columns::{
 use analytic_v6::prefixes::loss::{batch_loss, batch_loss_in};
 use checks::align::align_of;
 
-#[unsafe(no_mangle)]
-pub extern "C" fn fsrs_batch_loss(
+pub fn fsrs_batch_loss(
     w: &[f32],
     t_hist: &[f32],
     r_hist: &[f32],
@@ -38,8 +37,7 @@ pub extern "C" fn fsrs_batch_loss(
     a.refusal
 }
 
-#[unsafe(no_mangle)]
-pub extern "C" fn fsrs_batch_loss_and_grad(
+pub fn fsrs_batch_loss_and_grad(
     w: &[f32],
     t_hist: &[f32],
     r_hist: &[f32],
@@ -66,8 +64,7 @@ pub extern "C" fn fsrs_batch_loss_and_grad(
     graded.refusal
 }
 
-#[unsafe(no_mangle)]
-pub extern "C" fn fsrs_batch_loss_in(
+pub fn fsrs_batch_loss_in(
     end: bool,
     w: &[f32],
     t_hist: &[f32],
@@ -100,8 +97,7 @@ pub extern "C" fn fsrs_batch_loss_in(
     a.refusal
 }
 
-#[unsafe(no_mangle)]
-pub extern "C" fn fsrs_batch_loss_and_grad_in(
+pub fn fsrs_batch_loss_and_grad_in(
     end: bool,
     w: &[f32],
     t_hist: &[f32],

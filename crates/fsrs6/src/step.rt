@@ -19,8 +19,7 @@ fn put_step(numbers: &mut [f32; 10], refusal: u32, step: StepRecord)
     }
 }
 
-#[unsafe(no_mangle)]
-pub extern "C" fn fsrs_training_step(
+pub fn fsrs_training_step(
     w: &[f32],
     stability: f32,
     difficulty: f32,
@@ -51,8 +50,7 @@ pub extern "C" fn fsrs_training_step(
     a.refusal
 }
 
-#[unsafe(no_mangle)]
-pub extern "C" fn fsrs_training_step_backward(
+pub fn fsrs_training_step_backward(
     w: &[f32],
     stability: f32,
     difficulty: f32,

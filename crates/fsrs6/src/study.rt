@@ -32,8 +32,7 @@ use model_v6::stability::{
 };
 use model_v6::state::{MemoryState, first_state_scalar, next_state_scalar};
 
-#[unsafe(no_mangle)]
-pub extern "C" fn fsrs_check_and_fill_parameters(parameters: &[f32], weights: &mut [f32; 21]) -> u32
+pub fn fsrs_check_and_fill_parameters(parameters: &[f32], weights: &mut [f32; 21]) -> u32
     ensures { let a = fill_answer parameters.now in
         (result ≡ a.refusal) ×
         (weights.new ≡ written a.refusal a.weights weights.old) }
@@ -44,13 +43,7 @@ pub extern "C" fn fsrs_check_and_fill_parameters(parameters: &[f32], weights: &m
     a.refusal
 }
 
-#[unsafe(no_mangle)]
-pub extern "C" fn fsrs_power_forgetting_curve(
-    w: &[f32],
-    t: f32,
-    s: f32,
-    retrievability: &mut f32,
-) -> u32
+pub fn fsrs_power_forgetting_curve(w: &[f32], t: f32, s: f32, retrievability: &mut f32) -> u32
     ensures { let a = curve_scalar w.now t s in
         (result ≡ a.refusal) ×
         (retrievability.new ≡ written a.refusal a.value retrievability.old) }
@@ -60,13 +53,7 @@ pub extern "C" fn fsrs_power_forgetting_curve(
     curve.refusal
 }
 
-#[unsafe(no_mangle)]
-pub extern "C" fn fsrs_next_interval(
-    w: &[f32],
-    stability: f32,
-    desired_retention: f32,
-    days: &mut f32,
-) -> u32
+pub fn fsrs_next_interval(w: &[f32], stability: f32, desired_retention: f32, days: &mut f32) -> u32
     ensures { let a = interval_scalar w.now stability desired_retention in
         (result ≡ a.refusal) ×
         (days.new ≡ written a.refusal a.value days.old) }
@@ -76,8 +63,7 @@ pub extern "C" fn fsrs_next_interval(
     interval.refusal
 }
 
-#[unsafe(no_mangle)]
-pub extern "C" fn fsrs_stability_after_success(
+pub fn fsrs_stability_after_success(
     w: &[f32],
     s: f32,
     r: f32,
@@ -94,14 +80,7 @@ pub extern "C" fn fsrs_stability_after_success(
     success.refusal
 }
 
-#[unsafe(no_mangle)]
-pub extern "C" fn fsrs_stability_after_failure(
-    w: &[f32],
-    s: f32,
-    r: f32,
-    d: f32,
-    stability: &mut f32,
-) -> u32
+pub fn fsrs_stability_after_failure(w: &[f32], s: f32, r: f32, d: f32, stability: &mut f32) -> u32
     ensures { let a = stability_after_failure_scalar_def w.now s r d in
         (result ≡ a.refusal) ×
         (stability.new ≡ written a.refusal a.value stability.old) }
@@ -111,13 +90,7 @@ pub extern "C" fn fsrs_stability_after_failure(
     failure.refusal
 }
 
-#[unsafe(no_mangle)]
-pub extern "C" fn fsrs_stability_short_term(
-    w: &[f32],
-    s: f32,
-    rating: u32,
-    stability: &mut f32,
-) -> u32
+pub fn fsrs_stability_short_term(w: &[f32], s: f32, rating: u32, stability: &mut f32) -> u32
     ensures { let a = stability_short_term_scalar_def w.now s rating in
         (result ≡ a.refusal) ×
         (stability.new ≡ written a.refusal a.value stability.old) }
@@ -127,8 +100,7 @@ pub extern "C" fn fsrs_stability_short_term(
     short.refusal
 }
 
-#[unsafe(no_mangle)]
-pub extern "C" fn fsrs_init_difficulty(w: &[f32], rating: u32, difficulty: &mut f32) -> u32
+pub fn fsrs_init_difficulty(w: &[f32], rating: u32, difficulty: &mut f32) -> u32
     ensures { let a = init_difficulty_scalar_def w.now rating in
         (result ≡ a.refusal) ×
         (difficulty.new ≡ written a.refusal a.value difficulty.old) }
@@ -138,13 +110,7 @@ pub extern "C" fn fsrs_init_difficulty(w: &[f32], rating: u32, difficulty: &mut 
     first.refusal
 }
 
-#[unsafe(no_mangle)]
-pub extern "C" fn fsrs_mean_reversion(
-    w: &[f32],
-    init: f32,
-    current: f32,
-    difficulty: &mut f32,
-) -> u32
+pub fn fsrs_mean_reversion(w: &[f32], init: f32, current: f32, difficulty: &mut f32) -> u32
     ensures { let a = mean_reversion_scalar_def w.now init current in
         (result ≡ a.refusal) ×
         (difficulty.new ≡ written a.refusal a.value difficulty.old) }
@@ -154,8 +120,7 @@ pub extern "C" fn fsrs_mean_reversion(
     reverted.refusal
 }
 
-#[unsafe(no_mangle)]
-pub extern "C" fn fsrs_next_difficulty(w: &[f32], d: f32, rating: u32, difficulty: &mut f32) -> u32
+pub fn fsrs_next_difficulty(w: &[f32], d: f32, rating: u32, difficulty: &mut f32) -> u32
     ensures { let a = next_difficulty_scalar_def w.now d rating in
         (result ≡ a.refusal) ×
         (difficulty.new ≡ written a.refusal a.value difficulty.old) }
@@ -165,8 +130,7 @@ pub extern "C" fn fsrs_next_difficulty(w: &[f32], d: f32, rating: u32, difficult
     next.refusal
 }
 
-#[unsafe(no_mangle)]
-pub extern "C" fn fsrs_next_state(
+pub fn fsrs_next_state(
     w: &[f32],
     stability: f32,
     difficulty: f32,
@@ -192,8 +156,7 @@ pub extern "C" fn fsrs_next_state(
 }
 
 // The places may be the variables that the three numbers came from: a refused call leaves the given state in them.
-#[unsafe(no_mangle)]
-pub extern "C" fn fsrs_next_state_on(
+pub fn fsrs_next_state_on(
     w: &[f32],
     stability: f32,
     difficulty: f32,
@@ -225,8 +188,7 @@ pub extern "C" fn fsrs_next_state_on(
 }
 
 // The three claimed numbers are the bits of singles, so that none is changed on its way in.
-#[unsafe(no_mangle)]
-pub extern "C" fn fsrs_check_row(
+pub fn fsrs_check_row(
     w: &[f32],
     stability: f32,
     difficulty: f32,
@@ -260,13 +222,7 @@ pub extern "C" fn fsrs_check_row(
     n
 }
 
-#[unsafe(no_mangle)]
-pub extern "C" fn fsrs_first_state(
-    w: &[f32],
-    rating: u32,
-    stability: &mut f32,
-    difficulty: &mut f32,
-) -> u32
+pub fn fsrs_first_state(w: &[f32], rating: u32, stability: &mut f32, difficulty: &mut f32) -> u32
     ensures { let a = first_state_scalar_def w.now rating in
         (result ≡ a.refusal) ×
         (stability.new ≡ written a.refusal a.state.stability stability.old) ×
@@ -279,8 +235,7 @@ pub extern "C" fn fsrs_first_state(
     a.refusal
 }
 
-#[unsafe(no_mangle)]
-pub extern "C" fn fsrs_memory_state_from_sm2(
+pub fn fsrs_memory_state_from_sm2(
     w: &[f32],
     ease_factor: f32,
     interval: f32,

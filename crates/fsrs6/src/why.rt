@@ -27,8 +27,7 @@ pub struct ReasonNumbers {
     pub difficulty_held: u32,
 }
 
-#[unsafe(no_mangle)]
-pub extern "C" fn fsrs_explain_step(
+pub fn fsrs_explain_step(
     w: &[f32],
     stability: f32,
     difficulty: f32,
@@ -57,8 +56,7 @@ pub extern "C" fn fsrs_explain_step(
     }
 }
 
-#[unsafe(no_mangle)]
-pub extern "C" fn fsrs_batch_loss_fault(
+pub fn fsrs_batch_loss_fault(
     end: bool,
     w: &[f32],
     t_hist: &[f32],
@@ -88,8 +86,7 @@ pub extern "C" fn fsrs_batch_loss_fault(
 }
 
 // The records are counted in singles, ten for each.
-#[unsafe(no_mangle)]
-pub extern "C" fn fsrs_batch_loss_and_grad_fault(
+pub fn fsrs_batch_loss_and_grad_fault(
     end: bool,
     w: &[f32],
     t_hist: &[f32],
@@ -122,8 +119,7 @@ pub extern "C" fn fsrs_batch_loss_and_grad_fault(
     )
 }
 
-#[unsafe(no_mangle)]
-pub extern "C" fn fsrs_card_loss_fault(
+pub fn fsrs_card_loss_fault(
     end: bool,
     w: &[f32],
     t_hist: &[f32],
@@ -150,8 +146,7 @@ pub extern "C" fn fsrs_card_loss_fault(
     )
 }
 
-#[unsafe(no_mangle)]
-pub extern "C" fn fsrs_card_loss_and_grad_fault(
+pub fn fsrs_card_loss_and_grad_fault(
     end: bool,
     w: &[f32],
     t_hist: &[f32],

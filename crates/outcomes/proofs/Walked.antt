@@ -15,32 +15,32 @@ use Rattle.analytic_v6.specs.contracts.cards.grad.card_loss_and_grad
 use Rattle.analytic_v6.specs.contracts.cards.grad.card_loss_and_grad_in
 
 -- columns::step_records
-pub states_prefix_forward_steps : States prefix_forward_steps.ended (λ M. prefix_forward_steps.clauses {M = M}) prefix_forward_steps_claim
+pub states_prefix_forward_steps : States prefix_forward_steps.ended (λ M 𝓤. prefix_forward_steps.clauses {M = M} {𝓤 = 𝓤}) prefix_forward_steps_claim
 states_prefix_forward_steps = record { says = λ {𝓤 = 𝓤} 𝓛 mem run κs a g z e. id⊢ 𝓤 _ }
 
 pub one_prefix_forward_steps : OneWalked prefix_forward_steps.ended prefix_forward_steps_claim
 one_prefix_forward_steps = one_walked (λ κs a o c. c.0 ⨾ none ⨾ none ⨾ none ⨾ none ⨾ none ⨾ none ⨾ none ⨾ c.1 ⨾ end)
 
-pub states_card_forward_steps : States card_forward_steps.ended (λ M. card_forward_steps.clauses {M = M}) card_forward_steps_claim
+pub states_card_forward_steps : States card_forward_steps.ended (λ M 𝓤. card_forward_steps.clauses {M = M} {𝓤 = 𝓤}) card_forward_steps_claim
 states_card_forward_steps = record { says = λ {𝓤 = 𝓤} 𝓛 mem run κs a g z e. id⊢ 𝓤 _ }
 
 pub one_card_forward_steps : OneWalked card_forward_steps.ended card_forward_steps_claim
 one_card_forward_steps = one_walked (λ κs a o c. c.0 ⨾ none ⨾ none ⨾ none ⨾ none ⨾ none ⨾ none ⨾ none ⨾ none ⨾ none ⨾ none ⨾ c.1 ⨾ c.2 ⨾ end)
 
-pub states_prefix_backward_steps : States prefix_backward_steps.ended (λ M. prefix_backward_steps.clauses {M = M}) prefix_backward_steps_claim
+pub states_prefix_backward_steps : States prefix_backward_steps.ended (λ M 𝓤. prefix_backward_steps.clauses {M = M} {𝓤 = 𝓤}) prefix_backward_steps_claim
 states_prefix_backward_steps = record { says = λ {𝓤 = 𝓤} 𝓛 mem run κs a g z e. id⊢ 𝓤 _ }
 
 pub one_prefix_backward_steps : OneWalked prefix_backward_steps.ended prefix_backward_steps_claim
 one_prefix_backward_steps = one_walked (λ κs a o c. none ⨾ none ⨾ none ⨾ none ⨾ none ⨾ c ⨾ end)
 
-pub states_column_backward_steps : States column_backward_steps.ended (λ M. column_backward_steps.clauses {M = M}) column_backward_steps_claim
+pub states_column_backward_steps : States column_backward_steps.ended (λ M 𝓤. column_backward_steps.clauses {M = M} {𝓤 = 𝓤}) column_backward_steps_claim
 states_column_backward_steps = record { says = λ {𝓤 = 𝓤} 𝓛 mem run κs a g z e. id⊢ 𝓤 _ }
 
 pub one_column_backward_steps : OneWalked column_backward_steps.ended column_backward_steps_claim
 one_column_backward_steps = one_walked (λ κs a o c. none ⨾ none ⨾ none ⨾ none ⨾ none ⨾ none ⨾ c ⨾ end)
 
 -- analytic_v6::prefixes::grad
-pub states_batch_loss_and_grad : States batch_loss_and_grad.ended (λ M. batch_loss_and_grad.clauses {M = M}) batch_loss_and_grad_claim
+pub states_batch_loss_and_grad : States batch_loss_and_grad.ended (λ M 𝓤. batch_loss_and_grad.clauses {M = M} {𝓤 = 𝓤}) batch_loss_and_grad_claim
 states_batch_loss_and_grad = record { says = λ {𝓤 = 𝓤} 𝓛 mem run κs a g z e. id⊢ 𝓤 _ }
 
 pub one_batch_loss_and_grad : OneWalked batch_loss_and_grad.ended batch_loss_and_grad_claim
@@ -49,7 +49,7 @@ one_batch_loss_and_grad = one_walked (λ κs a o c. c.0 ⨾ none ⨾ none ⨾ no
 pub kept_batch_loss_and_grad : KeptWalked batch_loss_and_grad.ended (λ κs z. z.refusal) (λ κs e. e) batch_loss_and_grad_claim
 kept_batch_loss_and_grad = keeps_walked (λ κs a o c. ap (λ z. z.refusal) c.0) (λ κs a o c h. still ⨾ still ⨾ still ⨾ still ⨾ still ⨾ still ⨾ still ⨾ still ⨾ still ⨾ back (c.1.0 ∙ search refused) ⨾ back (c.1.1 ∙ search refused) ⨾ end)
 
-pub states_batch_loss_and_grad_in : States batch_loss_and_grad_in.ended (λ M. batch_loss_and_grad_in.clauses {M = M}) batch_loss_and_grad_in_claim
+pub states_batch_loss_and_grad_in : States batch_loss_and_grad_in.ended (λ M 𝓤. batch_loss_and_grad_in.clauses {M = M} {𝓤 = 𝓤}) batch_loss_and_grad_in_claim
 states_batch_loss_and_grad_in = record { says = λ {𝓤 = 𝓤} 𝓛 mem run κs a g z e. id⊢ 𝓤 _ }
 
 pub one_batch_loss_and_grad_in : OneWalked batch_loss_and_grad_in.ended batch_loss_and_grad_in_claim
@@ -59,7 +59,7 @@ pub kept_batch_loss_and_grad_in : KeptWalked batch_loss_and_grad_in.ended (λ κ
 kept_batch_loss_and_grad_in = keeps_walked (λ κs a o c. ap (λ z. z.refusal) c.0) (λ κs a o c h. still ⨾ still ⨾ still ⨾ still ⨾ still ⨾ still ⨾ still ⨾ still ⨾ still ⨾ still ⨾ back (c.1.0 ∙ search refused) ⨾ back (c.1.1 ∙ search refused) ⨾ end)
 
 -- analytic_v6::cards::grad
-pub states_card_loss_and_grad : States card_loss_and_grad.ended (λ M. card_loss_and_grad.clauses {M = M}) card_loss_and_grad_claim
+pub states_card_loss_and_grad : States card_loss_and_grad.ended (λ M 𝓤. card_loss_and_grad.clauses {M = M} {𝓤 = 𝓤}) card_loss_and_grad_claim
 states_card_loss_and_grad = record { says = λ {𝓤 = 𝓤} 𝓛 mem run κs a g z e. id⊢ 𝓤 _ }
 
 pub one_card_loss_and_grad : OneWalked card_loss_and_grad.ended card_loss_and_grad_claim
@@ -68,7 +68,7 @@ one_card_loss_and_grad = one_walked (λ κs a o c. c.0 ⨾ none ⨾ none ⨾ non
 pub kept_card_loss_and_grad : KeptWalked card_loss_and_grad.ended (λ κs z. z.refusal) (λ κs e. e) card_loss_and_grad_claim
 kept_card_loss_and_grad = keeps_walked (λ κs a o c. ap (λ z. z.refusal) c.0) (λ κs a o c h. still ⨾ still ⨾ still ⨾ still ⨾ still ⨾ still ⨾ still ⨾ still ⨾ back (c.1.0 ∙ search refused) ⨾ back (c.1.1 ∙ search refused) ⨾ back (c.1.2 ∙ search refused) ⨾ end)
 
-pub states_card_loss_and_grad_in : States card_loss_and_grad_in.ended (λ M. card_loss_and_grad_in.clauses {M = M}) card_loss_and_grad_in_claim
+pub states_card_loss_and_grad_in : States card_loss_and_grad_in.ended (λ M 𝓤. card_loss_and_grad_in.clauses {M = M} {𝓤 = 𝓤}) card_loss_and_grad_in_claim
 states_card_loss_and_grad_in = record { says = λ {𝓤 = 𝓤} 𝓛 mem run κs a g z e. id⊢ 𝓤 _ }
 
 pub one_card_loss_and_grad_in : OneWalked card_loss_and_grad_in.ended card_loss_and_grad_in_claim

@@ -1,5 +1,7 @@
 // parameter_initialization.rs, of which two functions are ported: the derivatives of the loss of first recalls, and the search
 // for a starting stability.
+#![tactic(auto)]
+
 mod curve;
 pub mod derivatives;
 mod ends;

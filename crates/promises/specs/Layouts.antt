@@ -1,5 +1,5 @@
 -- Change request K10: the gradient losses over a slice of step records and over plain columns of singles. Assumes nothing.
-use Rattle.std.specs.Prelude.{ℕ, zero, suc, ◌≤◌, ◌<◌, List, ◌≡◌, Float, length, get_or}
+use Rattle.std.specs.Prelude.{ℕ, ◌≤◌, ◌<◌, List, ◌≡◌, Float, length, get_or}
 use Rattle.domain.specs.Weights.{◌!◌}
 use Rattle.forward.specs.Params.{params_def}
 use Rattle.forward.specs.declared.state.StepRecord.{StepRecord}

@@ -1,6 +1,6 @@
 -- The exact values behind the kernels, as document 01 states them ('Exact values behind the kernels'): P, E and L, each a fraction of whole numbers.
 -- Nothing is rounded here. Assumes nothing.
-use Rattle.std.specs.Prelude.{ℕ, zero, suc, ◌+◌, ◌-◌, ◌*◌, ◌/◌, ◌^◌, Bool, ltb, ℤ, pos, negsuc, ◌+ℤ◌}
+use Rattle.std.specs.Prelude.{ℕ, zero, suc, ◌+◌, ◌-◌, ◌*◌, ◌^◌, Bool, ltb, ℤ, pos, negsuc, ◌+ℤ◌}
 use Rattle.std.specs.Int.Signed.{shr_z}
 use Rattle.std.specs.Float.Ieee.{size, up, down}
 use Rattle.table.specs.Whole.{signed, rest_z}

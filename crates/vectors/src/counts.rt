@@ -1,6 +1,6 @@
 // How many lines of each row were tried and passed, the first line that failed, and the account of
 // these on standard output.
-use libc::STDOUT_FILENO;
+use std::io;
 
 // What became of a line, and the row that it counts in. A remark or a line that only sets numbers is not tried.
 #[derive(Clone, Copy)]
@@ -47,62 +47,48 @@ fn total(counts: &[u64]) -> u64 {
     sum
 }
 
-pub fn print_line(text: &[u8]) {
-    io::write_all(STDOUT_FILENO, text);
-    io::write_all(STDOUT_FILENO, b"\n");
+pub fn print_line(rt: &impl Print, text: &str) -> io::Result<()> {
+    println!(rt; "{text}")
 }
 
-fn print_share(name: &[u8], passed: u64, tried: u64) {
-    io::write_all(STDOUT_FILENO, name);
-    io::print_decimal(STDOUT_FILENO, passed);
-    io::write_all(STDOUT_FILENO, b" of ");
-    io::print_decimal(STDOUT_FILENO, tried);
-    io::write_all(STDOUT_FILENO, b"\n");
+fn print_share(rt: &impl Print, name: &str, passed: u64, tried: u64) -> io::Result<()> {
+    println!(rt; "{name} {passed} of {tried}")
 }
 
 // A row that has no line goes unsaid.
-fn print_row(name: &[u8], passed: u64, tried: u64) {
+fn print_row(rt: &impl Print, name: &str, passed: u64, tried: u64) -> io::Result<()> {
     if tried != 0 {
-        print_share(name, passed, tried);
+        print_share(rt, name, passed, tried)?;
     }
+    Ok(())
 }
 
-// Each name ends with a space, which is printed with it.
-fn print_rows(names: &[u8], passed: &[u64], tried: &[u64]) {
-    let mut row = 0;
-    let mut start = 0;
-    let mut i = 0;
-    while i < names.len() {
-        let letter = names[i];
-        i += 1;
-        if letter == b' ' {
-            print_row(
-                &names[start..i],
-                count_at(passed, row),
-                count_at(tried, row),
-            );
-            row += 1;
-            start = i;
-        }
+fn print_rows(rt: &impl Print, names: &[&str], passed: &[u64], tried: &[u64]) -> io::Result<()> {
+    for (row, name) in names.iter().enumerate() {
+        print_row(rt, *name, count_at(passed, row), count_at(tried, row))?;
     }
+    Ok(())
 }
 
-fn print_first(first: u64) {
+fn print_first(rt: &impl Print, first: u64) -> io::Result<()> {
     if first == 0 {
-        return;
+        return Ok(());
     }
-    io::write_all(STDOUT_FILENO, b"the first that failed is line ");
-    io::print_decimal(STDOUT_FILENO, first);
-    io::write_all(STDOUT_FILENO, b"\n");
+    println!(rt; "the first that failed is line {first}")
 }
 
 // The rows by their names, the first line that failed, and the total. Nothing tried is a failure.
-pub fn print_counts(names: &[u8], passed: &[u64; 32], tried: &[u64; 32], first: u64) {
+pub fn print_counts(
+    rt: &impl Print,
+    names: &[&str],
+    passed: &[u64; 32],
+    tried: &[u64; 32],
+    first: u64,
+) -> io::Result<()> {
     if total(tried) == 0 {
-        print_line(b"failed: no line was tried");
-        return;
+        return print_line(rt, "failed: no line was tried");
     }
-    print_rows(names, passed, tried);
-    print_first(first);
-    print_share(b"total ", total(passed), total(tried));
+    print_rows(rt, names, passed, tried)?;
+    print_first(rt, first)?;
+    print_share(rt, "total", total(passed), total(tried))
 }

@@ -1,6 +1,8 @@
 // Runs the lists of test vectors in data/, one after another, and writes how many lines of each function passed. The scripts in
 // tools/vectors made the lists, by arithmetic on whole numbers, and say what a line holds; the answers of the list `rust` are
 // those of the Rust's own text over our kernels (`oracle/run --sample`). This program only compares.
+#![tactic(auto)]
+
 mod arithmetic;
 mod counts;
 mod digests;
@@ -17,6 +19,8 @@ mod study;
 use crate::counts::{Outcome, count, print_counts, print_line};
 use crate::line::{after_line, byte_at, read_words, row_of};
 use crate::slices::{first_of, is_slice, length_at, set_singles};
+use std::fs::File;
+use std::io::{self, Read};
 
 // What a list's lines call.
 #[derive(Clone, Copy)]
@@ -140,88 +144,152 @@ fn run_lines(
     }
 }
 
-fn run_text(kind: Kind, text: &[u8], letters: &[u8], names: &[u8]) {
+fn run_text(
+    rt: &impl Print,
+    kind: Kind,
+    text: &[u8],
+    letters: &[u8],
+    names: &[&str],
+) -> io::Result<()> {
     let mut passed = [0u64; ROWS];
     let mut tried = [0u64; ROWS];
     let mut first = 0;
     run_lines(kind, text, letters, &mut passed, &mut tried, &mut first);
-    print_counts(names, &passed, &tried, first);
+    print_counts(rt, names, &passed, &tried, first)
 }
 
 // Runs the list in the file `name`. Its lines begin with one of the letters, and count for the name in the same place.
-fn run_list(kind: Kind, name: &[u8], letters: &[u8], names: &[u8]) {
-    print_line(name);
-    let fd = os::open_read(name);
-    if fd < 0 {
-        print_line(b"failed: it cannot be opened");
-        return;
+fn run_list(
+    rt: &HostRuntime,
+    kind: Kind,
+    name: &str,
+    letters: &[u8],
+    names: &[&str],
+) -> io::Result<()> {
+    print_line(rt, name)?;
+    match File::open(rt, name) {
+        Err(_) => print_line(rt, "failed: it cannot be opened"),
+        Ok(mut file) => {
+            let mut text = Vec::new(rt.alloc());
+            file.read_to_end(&mut text)?;
+            if text.len() >= BYTES {
+                return print_line(rt, "failed: it is too long");
+            }
+            run_text(rt, kind, &text, letters, names)
+        }
     }
-    let mut text = [0u8; BYTES];
-    let n = io::read_full(fd, &mut text);
-    libc::close(fd);
-    if n == BYTES {
-        print_line(b"failed: it is too long");
-        return;
-    }
-    run_text(kind, &text[..n], letters, names);
 }
 
-fn run_study() {
-    let names =
-        b"clamp max min is_finite is_within floor_stability clamp_stability clamp_interval clamp_difficulty \
-        is_stability is_difficulty is_day weights_refusal all_finite default_weights copy_weights \
-        check_and_fill_parameters_fsrs6 power_forgetting_curve_scalar next_interval_scalar \
-        stability_after_success_scalar stability_after_failure_scalar stability_short_term_scalar \
-        init_difficulty_scalar mean_reversion_scalar next_difficulty_scalar next_state_scalar \
-        memory_state_from_sm2_scalar next_state_on_scalar check_row malformed ";
+fn run_study(rt: &HostRuntime) -> io::Result<()> {
+    let names = &[
+        "clamp",
+        "max",
+        "min",
+        "is_finite",
+        "is_within",
+        "floor_stability",
+        "clamp_stability",
+        "clamp_interval",
+        "clamp_difficulty",
+        "is_stability",
+        "is_difficulty",
+        "is_day",
+        "weights_refusal",
+        "all_finite",
+        "default_weights",
+        "copy_weights",
+        "check_and_fill_parameters_fsrs6",
+        "power_forgetting_curve_scalar",
+        "next_interval_scalar",
+        "stability_after_success_scalar",
+        "stability_after_failure_scalar",
+        "stability_short_term_scalar",
+        "init_difficulty_scalar",
+        "mean_reversion_scalar",
+        "next_difficulty_scalar",
+        "next_state_scalar",
+        "memory_state_from_sm2_scalar",
+        "next_state_on_scalar",
+        "check_row",
+        "malformed",
+    ];
     run_list(
+        rt,
         Kind::Study,
-        b"study",
+        "study",
         b"cxnfiosvdpqtbaukFCISLTEMDNPOR",
         names,
-    );
+    )
 }
 
-fn run_losses(name: &[u8]) {
-    let names =
-        b"batch_loss_and_grad batch_loss card_loss_and_grad card_loss batch_loss_and_grad_in batch_loss_in \
-        card_loss_and_grad_in card_loss_in malformed ";
-    run_list(Kind::Losses, name, b"01234567", names);
+fn run_losses(rt: &HostRuntime, name: &str) -> io::Result<()> {
+    let names = &[
+        "batch_loss_and_grad",
+        "batch_loss",
+        "card_loss_and_grad",
+        "card_loss",
+        "batch_loss_and_grad_in",
+        "batch_loss_in",
+        "card_loss_and_grad_in",
+        "card_loss_in",
+        "malformed",
+    ];
+    run_list(rt, Kind::Losses, name, b"01234567", names)
 }
 
-fn main() {
+fn main(rt: HostRuntime) -> io::Result<()> {
+    let rt = &rt;
     run_list(
+        rt,
         Kind::Arithmetic,
-        b"arithmetic",
+        "arithmetic",
         b"FfRrn",
-        b"fma_f64 fma_f32 round_f64 round_f32 narrow malformed ",
-    );
-    run_study();
+        &[
+            "fma_f64",
+            "fma_f32",
+            "round_f64",
+            "round_f32",
+            "narrow",
+            "malformed",
+        ],
+    )?;
+    run_study(rt)?;
     run_list(
+        rt,
         Kind::Step,
-        b"step",
+        "step",
         b"TB",
-        b"training_step training_step_backward malformed ",
-    );
-    run_losses(b"losses");
-    run_losses(b"aligned");
-    run_losses(b"rust");
+        &["training_step", "training_step_backward", "malformed"],
+    )?;
+    run_losses(rt, "losses")?;
+    run_losses(rt, "aligned")?;
+    run_losses(rt, "rust")?;
     run_list(
+        rt,
         Kind::Penalty,
-        b"penalty",
+        "penalty",
         b"P",
-        b"l2_penalty_value_and_grad malformed ",
-    );
+        &["l2_penalty_value_and_grad", "malformed"],
+    )?;
     run_list(
+        rt,
         Kind::Explained,
-        b"explain",
+        "explain",
         b"E0123",
-        b"explain_step batch_loss_and_grad_fault batch_loss_fault card_loss_and_grad_fault card_loss_fault malformed ",
-    );
+        &[
+            "explain_step",
+            "batch_loss_and_grad_fault",
+            "batch_loss_fault",
+            "card_loss_and_grad_fault",
+            "card_loss_fault",
+            "malformed",
+        ],
+    )?;
     run_list(
+        rt,
         Kind::Initial,
-        b"initial",
+        "initial",
         b"DS",
-        b"loss_derivatives initial_stability malformed ",
-    );
+        &["loss_derivatives", "initial_stability", "malformed"],
+    )
 }

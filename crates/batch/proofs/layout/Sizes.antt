@@ -1,8 +1,7 @@
 -- What the tests of a header tell: that its positions fit, and that they stand in order. Assumes nothing.
 use Prim.Native.Nat.{ℕ, ◌+◌, ◌*◌, ◌/◌, ◌%◌, ◌^◌, ◌≤◌, ◌<◌}
-use mathlib.Core.Path.{◌≡◌, refl, sym, ◌∙◌, subst}
+use mathlib.Core.Path.{◌≡◌, refl, sym}
 use mathlib.Core.Bool.{Bool, true, false, ◌&&◌, cond}
-use mathlib.Core.Logic.{⊎_elim, ◌⊎◌}
 use native.Mathlib.Omega.{arith}
 use native.Mathlib.Nat.{le_of_lt, le_trans, mul-le-mul_left, mul-le-mul_right}
 use lib.Dec.{eqb, leb}

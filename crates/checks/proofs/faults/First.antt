@@ -1,10 +1,10 @@
 -- The search for the first fault: one more place without one, the place that has it, and none at all. Assumes nothing.
-use Prim.Native.Nat.{ℕ, zero, suc, ◌+◌, ◌≤◌, ◌<◌}
+use Prim.Native.Nat.{ℕ, zero, suc, ◌+◌, ◌<◌}
 use mathlib.Core.Bool.{Bool, true, false, cond}
 use mathlib.Core.Path.{◌≡◌, refl, sym, ap, ◌∙◌, subst}
-use native.Mathlib.Nat.{add-sub_of_le, add-zero, add-suc, suc-ne-zero}
+use native.Mathlib.Nat.{add-sub_of_le, add-zero, add-suc}
 use native.Mathlib.Numerals.{add-one}
-use borrow.Author.Tests.{eq-eqb, ne_eqb, eqb-true}
+use borrow.Author.Tests.{eq-eqb, ne_eqb}
 use lib.Dec.{T, eqb}
 use Rattle.checks.specs.Faults.{no_fault_def, fault_at_def, or_else, first_fault_def}
 use Rattle.checks.specs.declared.fault.Fault.{Fault}

@@ -1,5 +1,5 @@
 -- The record of any step is the one that is read back. Assumes nothing.
-use Rattle.std.proofs.Common.{◌≡◌, ℕ, ◌-◌, Bool, true, false, cond, not, refl}
+use Rattle.std.proofs.Common.{◌≡◌, ℕ, ◌-◌, Bool, true, false, cond, refl}
 use lib.Ieee.{Float, eq, lt, of_bits}
 use Rattle.domain.specs.Limits.{zero32, one}
 use Rattle.domain.specs.Weights.{◌!◌}

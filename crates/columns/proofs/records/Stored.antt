@@ -1,5 +1,5 @@
 -- A stored record is found again, and those of the other rows are kept. Assumes nothing.
-use Rattle.std.proofs.Common.{◌≡◌, ℕ, zero, suc, ◌+◌, ◌<◌, ◌≤◌, ◌≢◌, List, [], ◌∷◌, length, get_or, set, sym, refl, ap, ◌∙◌, subst, le_refl, lt_of_lt_of_le, le_of_suc-le-suc, not-suc-le-zero, add-zero, le_of_lt, add-suc, suc-add, zero-add, arith, length-set, get_or-set_other, get_or-set_same}
+use Rattle.std.proofs.Common.{◌≡◌, ℕ, zero, suc, ◌+◌, ◌<◌, ◌≤◌, ◌≢◌, List, [], ◌∷◌, length, set, sym, refl, ◌∙◌, subst, le_refl, lt_of_lt_of_le, le_of_suc-le-suc, not-suc-le-zero, add-zero, le_of_lt, add-suc, suc-add, zero-add, arith, length-set, get_or-set_other, get_or-set_same}
 use lib.Ieee.{Float, nan}
 use Rattle.domain.specs.Weights.{◌!◌}
 use Rattle.forward.specs.declared.state.StepRecord.{StepRecord}

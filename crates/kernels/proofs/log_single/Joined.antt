@@ -59,7 +59,7 @@ log_is x p t e = ap (λ (b : Bool). picked b x) (sym e) ∙ by_parts (λ (x : Fl
 module _ (x : Float) (p : T (positive x)) (r : ℤ) where
   pub step_given : (m : ℕ) (k : ℤ) → Known x m k → r ≡ step_log_at_def m k → mag r < 2 ^ 38 → (read r ≡ step_log_of binary32 x) × (mag (read r) < 2 ^ 38)
   step_given m k w e h =
-      let s = given (λ (z : ℤ). mag z < 2 ^ 38) (read r) r (to_z-of_z (record { sfits = lt_of_le_of_lt (le_of_lt h) (lit< tt) })) h in
+      let s = given (λ (z : ℤ). mag z < 2 ^ 38) (read r) r (to_z-of_z {w = w64} (record { sfits = lt_of_le_of_lt (le_of_lt h) (lit< {m = 2 ^ 38} {n = 2 ^ 63} tt) })) h in
       (s.0 ∙ e ∙ ap₂ step_log_at_def w.digits w.place ∙ step_log x p, s.1)
 
   answer : nat_abs r < 2 ^ 63 → r ≡ log_of binary32 x → (read r ≡ log_of binary32 x) × (nat_abs (read r) < 2 ^ 63)

@@ -12,7 +12,7 @@ word z = to_z w64 (of_z w64 z)
 
 -- z has at most 63 digits
 pub back : (z : ℤ) (n : ℕ) → T (leb n 63) → mag z < 2 ^ n → word z ≡ z
-back z n t h = to_z-of_z (record { sfits = lt_of_lt_of_le h (pow_mono (leb→le n 63 t)) })
+back z n t h = to_z-of_z {w = w64} (record { sfits = lt_of_lt_of_le h (pow_mono (leb→le n 63 t)) })
 
 pub kept : (z : ℤ) (n : ℕ) → T (leb n 63) → mag z < 2 ^ n → mag (word z) < 2 ^ n
 kept z n t h = subst (λ (x : ℤ). mag x < 2 ^ n) (sym (back z n t h)) h

@@ -1,6 +1,6 @@
 -- A card: its fault, its loss and its slots, from the cells and weights that count as read. Assumes nothing.
 use Prim.Native.Nat.{ℕ, zero, suc, ◌-◌, ◌<◌}
-use mathlib.Core.Bool.{Bool, true, false, not, ◌&&◌, cond}
+use mathlib.Core.Bool.{Bool, true, false, ◌&&◌, cond}
 use mathlib.Core.List.{List}
 use mathlib.Core.Path.{◌≡◌, refl, ap, ◌∙◌}
 use native.Mathlib.Nat.{le-suc, lt_of_lt_of_le, lt-suc_self}
@@ -55,14 +55,14 @@ module _ (n row : ℕ) where
 pub last_inside : (n : ℕ) → (n ≡ 0 → ⊥) → n - 1 < n
 last_inside n h = omega (arith, h)
 
-is_last : (n : ℕ) → (n ≡ 0 → ⊥) → is_last n (n - 1) ≡ true
+is_last_row : (n : ℕ) → (n ≡ 0 → ⊥) → is_last n (n - 1) ≡ true
 unfolding is_last
-is_last n h = eq-eqb (suc (n - 1)) n (omega (arith, h))
+is_last_row n h = eq-eqb (suc (n - 1)) n (omega (arith, h))
 
 pub last_day_read :
     (n : ℕ) → (n ≡ 0 → ⊥) → (number : ℕ) (rating weight : Float) → card_label number weight ≡ true → card_day_def (is_last n (n - 1)) number rating weight ≡ true
 unfolding card_day_def card_label
-last_day_read n h number rating weight e = rw (is_last n h) e
+last_day_read n h number rating weight e = rw (is_last_row n h) e
 
 module _ (p p' : RuntimeParams) (h h' : History) (label weight label' weight' : ℕ → Float) where
   losses_same : (n : ℕ) → ((row : ℕ) → row < n → score_at_def p h label weight row ≡ score_at_def p' h' label' weight' row) →
@@ -185,13 +185,13 @@ module _ (x y : Cards) (column : ℕ) where
         grad_of : grad_of_def (params_def w) x column n ≡ grad_of_def (params_def v) y column n
         grad_of = last_grad_same w v twenty last_number _ _ _ _ _ _ _ last.weights last_day last.labels ∙ (rw (state_same, same.first))
 
-        end_of : (gw : List Float) → end_of (params_def w) x column n gw ≡ end_of (params_def v) y column n gw
-        end_of gw = last_slots_same w v twenty last_number _ _ _ _ _ _ _ last.weights last_day last.labels gw ∙ (rw (state_same, same.first))
+        ends_same : (gw : List Float) → end_of (params_def w) x column n gw ≡ end_of (params_def v) y column n gw
+        ends_same gw = last_slots_same w v twenty last_number _ _ _ _ _ _ _ last.weights last_day last.labels gw ∙ (rw (state_same, same.first))
 
-        walk_of : (gw : List Float) → walk_of (params_def w) x column n gw ≡ walk_of (params_def v) y column n gw
-        walk_of gw =
+        walks_same : (gw : List Float) → walk_of (params_def w) x column n gw ≡ walk_of (params_def v) y column n gw
+        walks_same gw =
             walk_same w v hx hy same.first (n - 1) rows twenty _ _ (λ row l. ap (λ (s : Score). s.g_r) (score_same row l)) _ _ ∙
-            (rw (grad_of, end_of gw))
+            (rw (grad_of, ends_same gw))
 
       pub card_loss_same : card_loss_def (params_def w) x column ≡ card_loss_def (params_def v) y column
       unfolding card_loss_def
@@ -201,7 +201,7 @@ module _ (x y : Cards) (column : ℕ) where
       pub card_slots_same : (gw : List Float) → card_slots_def (params_def w) x column gw ≡ card_slots_def (params_def v) y column gw
       unfolding card_slots_def
       card_slots_same gw =
-          by_cases (eqb n 0) _ _ _ _ (λ e. refl) (λ e. walk_of (eqb-false n 0 e) gw) ∙
+          by_cases (eqb n 0) _ _ _ _ (λ e. refl) (λ e. walks_same (eqb-false n 0 e) gw) ∙
           ap (λ (m : ℕ). slots_with (params_def v) y column m gw) same.lengths
 
   -- a slot that neither the steps nor the last row may move

@@ -5,7 +5,6 @@ use mathlib.Core.Path.{◌≡◌, refl, ap, ◌∙◌}
 use native.Mathlib.Nat.{le-suc, lt_of_lt_of_le, lt-suc_self}
 use lib.Ieee.{Float}
 use Rattle.domain.specs.Weights.{◌!◌}
-use Rattle.domain.specs.Doubles.{◌+ᵈ◌}
 use Rattle.checks.specs.Columns.{total, through}
 
 pub total_same : (f g : ℕ → Float) (n : ℕ) → ((column : ℕ) → column < n → f column ≡ g column) → total f n ≡ total g n

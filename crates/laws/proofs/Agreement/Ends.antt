@@ -1,5 +1,5 @@
 -- A column's last scored review depends on no cell but those that it reads, and on weight 20. Assumes nothing.
-use Prim.Native.Nat.{ℕ, zero, suc}
+use Prim.Native.Nat.{ℕ}
 use mathlib.Core.Bool.{Bool, true, false, not, ◌&&◌, cond}
 use mathlib.Core.List.{List}
 use mathlib.Core.Path.{◌≡◌, refl, sym, ap, ◌∙◌}
@@ -10,7 +10,6 @@ use Rattle.domain.specs.Limits.{zero32, s_min_def, s_max_def}
 use Rattle.domain.specs.Weights.{◌!◌}
 use Rattle.checks.specs.Reads.{later, non_zero, card_label}
 use Rattle.columns.specs.Scores.{score_def}
-use Rattle.columns.specs.declared.scores.Score.{Score}
 use Rattle.forward.specs.Params.{params_def}
 use Rattle.columns.specs.LastReview.{target_loss_def, target_grad, target_slots, last_loss_def, last_grad, last_slots}
 use Rattle.columns.specs.ForwardPass.{row_score_def}

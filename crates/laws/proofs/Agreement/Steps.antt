@@ -1,11 +1,10 @@
 -- A law of every step's record, beside the weights that the step reads, from the law of each branch. Assumes nothing.
 use Prim.Native.Nat.{ℕ, ◌-◌}
-use mathlib.Core.Bool.{Bool, true, false, not, cond}
+use mathlib.Core.Bool.{Bool, true, false, cond}
 use mathlib.Core.List.{List, [], ◌∷◌}
 use lib.Ieee.{Float, eq, lt}
 use Rattle.domain.specs.Limits.{zero32, one}
 use Rattle.domain.specs.Weights.{◌!◌}
-use Rattle.forward.specs.Curve.{curve_forward_def}
 use Rattle.forward.specs.declared.parameters.RuntimeParams.{RuntimeParams}
 use Rattle.forward.specs.Stability.{short_def, lapse_move_def, lapse_def, success_def}
 use Rattle.forward.specs.declared.state.Branch.{Branch}

@@ -3,7 +3,7 @@ use Prim.Native.Nat.{ℕ, ◌-◌}
 use mathlib.Core.Bool.{Bool, true, false, ◌||◌, ◌&&◌, not, cond}
 use mathlib.Core.List.{List, [], ◌∷◌, ◌++◌}
 use mathlib.Core.Path.{◌≡◌, refl, sym, subst}
-use lib.Dec.{T, eqb}
+use lib.Dec.{eqb}
 use lib.Ieee.{Float, eq, lt, of_bits}
 use borrow.Author.Tests.{eqb-true}
 use Rattle.domain.specs.Doubles.{zero64}
@@ -14,9 +14,8 @@ use Rattle.columns.specs.declared.scores.Score.{Score}
 use Rattle.columns.specs.Scores.{min_prob_def, is_inside_def, no_score_def, score_def}
 use Rattle.forward.specs.declared.parameters.RuntimeParams.{RuntimeParams}
 use Rattle.forward.specs.declared.state.Branch.{Branch}
-use Rattle.forward.specs.declared.state.Branch.TheVariants.{Padding, First, SameDay, Lapse, Success}
 use Rattle.forward.specs.declared.state.State.{State}
-use Rattle.forward.specs.WeightsRead.{among, first_weights, common, success_weights, step_reads, Agree}
+use Rattle.forward.specs.WeightsRead.{among, common, success_weights, step_reads, Agree}
 use Rattle.forward.specs.Step.{rating_number_def, step_def}
 use Rattle.forward.proofs.Agreement.{among_append, after}
 use Rattle.backward.specs.Moves.{slots_of, reverse_reads}

@@ -5,7 +5,7 @@ use Prim.Native.Nat.{ℕ, zero, suc, ◌+◌, ◌-◌, ◌*◌, ◌/◌, ◌%◌
 use native.Mathlib.Nat.{le_trans, le_of_eq, le_of_suc-le-suc, not-suc-le-zero, mul_comm, mul_assoc, mul-pos, mul-le-mul, mul-le-mul_right, zero-lt-suc, le-add_right, mod-lt, mod-eq_of_lt, div-lt_iff_lt-mul, le-div_iff_mul-le}
 use native.Mathlib.Omega.{arith}
 use borrow.Author.Tests.{le-ltb}
-use lib.Dec.{T, eqb, ltb, leb, leb→le, eqb-suc-zero, lit<, lit≤}
+use lib.Dec.{T, ltb, leb, leb→le, eqb-suc-zero, lit<, lit≤}
 use lib.IntN.{ℤ, pos, negsuc, nat_abs}
 use lib.Pow.{pow_pos, pow_mono}
 use lib.Ieee.{Float, nan, inf, fin, binary32, of_bits, size, up, down, round, neg, sum, add, sub, div, le}

@@ -1,7 +1,7 @@
 -- The losses of calls without a fault: a column's is at most 2 ^ 27 for each review that it scores, and the total of up to 2 ^ 22 of them is a number. Assumes nothing.
 use mathlib.Core.Path.{◌≡◌, refl, sym, ◌∙◌, subst}
 use mathlib.Core.Bool.{Bool, true, false, not, ◌&&◌, ◌||◌, cond, true≢false}
-use mathlib.Core.List.{List, []}
+use mathlib.Core.List.{List}
 use Prim.Native.Nat.{ℕ, zero, suc, ◌+◌, ◌-◌, ◌*◌, ◌^◌, ◌≤◌, ◌<◌}
 use native.Mathlib.Nat.{le_of_eq, lt_of_le_of_lt, le_refl, mul-le-mul_left, mul-le-mul_right}
 use native.Mathlib.Omega.{arith}
@@ -70,9 +70,9 @@ not_last : (n row : ℕ) → row < n - 1 → is_last n row ≡ false
 unfolding is_last
 not_last n row m = ne_eqb (suc row) n (λ q. omega (arith, m, q))
 
-is_last : (n : ℕ) → 0 < n → is_last n (n - 1) ≡ true
+is_last_row : (n : ℕ) → 0 < n → is_last n (n - 1) ≡ true
 unfolding is_last
-is_last n m = eq-eqb (suc (n - 1)) n (omega arith)
+is_last_row n m = eq-eqb (suc (n - 1)) n (omega arith)
 
 before : (n row : ℕ) → row < n - 1 → row < n
 before n row m = omega arith
@@ -163,7 +163,7 @@ module _ (w : List Float) (singles : (k : ℕ) → T (fits binary32 (w ! k))) (b
             record {
               weight_good = sc.weight_good split.0;
               label_good = λ q. sc.label_good c;
-              day_good = λ q. last_read end (is_last n row) (row - hist.first) (hist.day row) (hist.rating row) weight label e (is_last n z) c;
+              day_good = λ q. last_read end (is_last n row) (row - hist.first) (hist.day row) (hist.rating row) weight label e (is_last_row n z) c;
             }
 
         stable : T (positive s) × Least 14 s

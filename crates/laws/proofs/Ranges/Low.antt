@@ -4,7 +4,7 @@ use mathlib.Core.Bool.{Bool, true, false, cond}
 use Prim.Native.Nat.{ℕ, suc, ◌*◌, ◌/◌, ◌^◌, ◌≤◌, ◌<◌}
 use native.Mathlib.Nat.{le_trans, le_of_eq, lt_of_le_of_lt, mul-one, one-mul, mul-pos, mul-le-mul, div-lt_iff_lt-mul}
 use native.Mathlib.Omega.{arith}
-use lib.Dec.{T, ltb, ltb→lt, lit<, lit≤}
+use lib.Dec.{T, ltb→lt, lit<, lit≤}
 use lib.IntN.{ℤ, pos, negsuc, nat_abs, sub_ℕ}
 use lib.Pow.{pow_pos, pow_mono}
 use lib.Signed.{lt_z, shr_z}

@@ -1,6 +1,6 @@
 -- A scored review: its probability lies from 1e-7 to 1 - 1e-7, so that both logarithms are numbers, and its loss is at most 2 ^ 27. Assumes nothing.
 use mathlib.Core.Path.{◌≡◌, refl}
-use mathlib.Core.Bool.{Bool, true, false, not, cond}
+use mathlib.Core.Bool.{Bool, true, false, cond}
 use Prim.Native.Nat.{zero-le}
 use lib.Dec.{T, lit<, lit≤}
 use lib.Ieee.{Float, binary32, of_bits, neg, is_nan, lt, le, eq, sub}

@@ -70,15 +70,15 @@ nan_times : (y : Float) → nan *ᶠ y ≡ nan
 unfolding mul
 nan_times y = refl
 
-is_nan : (x : Float) → is_nan x ≡ true → x ≡ nan
+nan_only : (x : Float) → is_nan x ≡ true → x ≡ nan
 unfolding is_nan
-is_nan nan h = refl
-is_nan (inf s) h = absurd (true≢false (sym h))
-is_nan (fin s m e) h = absurd (true≢false (sym h))
+nan_only nan h = refl
+nan_only (inf s) h = absurd (true≢false (sym h))
+nan_only (fin s m e) h = absurd (true≢false (sym h))
 
 -- ---- what is not above 0 has no power
 no_power : (x y : Float) → positive x ≡ false → pow32 x y ≡ nan
-no_power x y h = is_nan (pow32 x y) (pow_nan binary32 x y ∙ ap (λ (b : Bool). not (b && powered y)) h)
+no_power x y h = nan_only (pow32 x y) (pow_nan binary32 x y ∙ ap (λ (b : Bool). not (b && powered y)) h)
 
 no_difficulty : (w : List Float) (ease s retention : Float) → positive s ≡ false → sm2_difficulty_def w ease s retention ≡ nan
 unfolding sm2_difficulty_def
@@ -363,7 +363,7 @@ by_power x y Q n h = go (powered y) refl
   where
     go : (b : Bool) → powered y ≡ b → Q (pow32 x y)
     go true e = h (holds e)
-    go false e = subst Q (sym (is_nan (pow32 x y) (pow_nan binary32 x y ∙ ap (λ (b : Bool). not (positive x && b)) e ∙ ap not (and-false (positive x))))) n
+    go false e = subst Q (sym (nan_only (pow32 x y) (pow_nan binary32 x y ∙ ap (λ (b : Bool). not (positive x && b)) e ∙ ap not (and-false (positive x))))) n
 
 pub factor_plus : (v : Float) → T (above0 v) → T (plus (factor_def (neg v)))
 unfolding factor_def

@@ -1,19 +1,17 @@
 -- How large a number is, |x| at most 2 ^ k, and whether it is negative; both of a rounded fraction, in either format. Assumes nothing.
 use mathlib.Core.Path.{◌≡◌, refl, sym, ap, ◌∙◌, subst}
-use mathlib.Core.Bool.{Bool, true, false, not, ◌&&◌, ◌||◌, cond}
-use mathlib.Core.Logic.{inl, inr}
+use mathlib.Core.Bool.{Bool, true, false, not, cond}
 use Prim.Native.Nat.{ℕ, zero, suc, ◌+◌, ◌*◌, ◌^◌, ◌≤◌, ◌<◌}
-use native.Mathlib.Nat.{le_trans, le_of_eq, le_of_lt, lt_of_le_of_lt, lt_of_lt_of_le, mul-one, one-mul, mul-le-mul_right}
-use lib.Dec.{T, ltb, eqb, ltb→lt, lt→ltb, eqb→eq}
+use native.Mathlib.Nat.{le_trans, le_of_eq, lt_of_le_of_lt, lt_of_lt_of_le, mul-one, one-mul, mul-le-mul_right}
+use lib.Dec.{T, ltb, lt→ltb}
 use lib.IntN.{pos}
 use lib.Pow.{pow_pos, pow-lt, pow_mono}
 use lib.Ieee.{Float, nan, inf, fin, Format, binary32, binary64, prec, emax, low, odd, units, round, up, down, fits, neg, is_nan, le}
-use lib.Ieee.Fits.{and_l, round_is}
+use lib.Ieee.Fits.{round_is}
 use lib.Ieee.Order.{round_mono}
 use lib.Ieee.Scale.{finite}
-use mir.Facts.{or_yes}
 use Rattle.columns.proofs.scores.Settled.{settles}
-use Rattle.kernels.proofs.Definitions.Cases.{below_or, or_below}
+use Rattle.kernels.proofs.Definitions.Cases.{below_or}
 
 -- a number, and at most 2 ^ k in size
 abbrev pub Size : ℕ → Float → Type 0

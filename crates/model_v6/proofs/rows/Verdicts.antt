@@ -13,16 +13,12 @@ use Rattle.model_v6.specs.Curve.{interval_def}
 use Rattle.model_v6.specs.NextState.{next_state_def}
 use Rattle.model_v6.specs.Rows.{ours_def, verdict_def, row_refusal_def, row_check, refusal_of_def, field_number_def, verdict_of_def}
 use Rattle.model_v6.specs.declared.rows.Claimed.{Claimed}
-use Rattle.model_v6.specs.declared.rows.Field.TheVariants.{Stability, Difficulty, Interval}
-use Rattle.model_v6.specs.declared.rows.RowCheck.{RowCheck}
-use Rattle.model_v6.specs.declared.rows.RowCheck.TheVariants.{Refused, Accepted, Wrong}
+use Rattle.model_v6.specs.declared.rows.RowCheck.TheVariants.{Refused, Accepted}
 use Rattle.model_v6.specs.declared.state.MemoryState.{MemoryState}
+use Rattle.model_v6.proofs.rows.Picked.{picked, same_stability, same_difficulty, same_interval}
 use Rattle.model_v6.proofs.answers.Answering.{none_before, answers_good, answers_copied}
 
 -- ---- by the three comparisons
-abbrev picked : (a b c : Bool) → RowCheck
-picked a b c = cond a (cond b (cond c Accepted (Wrong Interval)) (Wrong Difficulty)) (Wrong Stability)
-
 all_agree : (a b c : Bool) → verdict_of_def (picked a b c) ≡ 0 → (a ≡ true) × (b ≡ true) × (c ≡ true)
 unfolding verdict_of_def field_number_def
 all_agree true true true h = (refl, refl, refl)
@@ -53,35 +49,26 @@ third_differs false b c h = absurd (omega (arith, h))
 
 -- ---- by the fields: the number of a verdict is the first wrong field's, and all before it agree
 module _ (claimed ours : Claimed) where
-  abbrev same_stability : Bool
-  same_stability = eqb claimed.stability ours.stability
-
-  abbrev same_difficulty : Bool
-  same_difficulty = eqb claimed.difficulty ours.difficulty
-
-  abbrev same_interval : Bool
-  same_interval = eqb claimed.interval ours.interval
-
   pub verdict_0 :
       verdict_of_def (verdict_def claimed ours) ≡ 0
       → (claimed.stability ≡ ours.stability) × (claimed.difficulty ≡ ours.difficulty) × (claimed.interval ≡ ours.interval)
   unfolding verdict_def
-  verdict_0 h = let e = all_agree same_stability same_difficulty same_interval h in (eqb-true _ _ e.0, eqb-true _ _ e.1, eqb-true _ _ e.2)
+  verdict_0 h = let e = all_agree (same_stability claimed ours) (same_difficulty claimed ours) (same_interval claimed ours) h in (eqb-true _ _ e.0, eqb-true _ _ e.1, eqb-true _ _ e.2)
 
   pub verdict_1 : verdict_of_def (verdict_def claimed ours) ≡ 1 → claimed.stability ≡ ours.stability → ⊥
   unfolding verdict_def
-  verdict_1 h = eqb-false _ _ (first_differs same_stability same_difficulty same_interval h)
+  verdict_1 h = eqb-false _ _ (first_differs (same_stability claimed ours) (same_difficulty claimed ours) (same_interval claimed ours) h)
 
   pub verdict_2 :
       verdict_of_def (verdict_def claimed ours) ≡ 2 → (claimed.stability ≡ ours.stability) × (claimed.difficulty ≡ ours.difficulty → ⊥)
   unfolding verdict_def
-  verdict_2 h = let e = second_differs same_stability same_difficulty same_interval h in (eqb-true _ _ e.0, eqb-false _ _ e.1)
+  verdict_2 h = let e = second_differs (same_stability claimed ours) (same_difficulty claimed ours) (same_interval claimed ours) h in (eqb-true _ _ e.0, eqb-false _ _ e.1)
 
   pub verdict_3 :
       verdict_of_def (verdict_def claimed ours) ≡ 3
       → (claimed.stability ≡ ours.stability) × (claimed.difficulty ≡ ours.difficulty) × (claimed.interval ≡ ours.interval → ⊥)
   unfolding verdict_def
-  verdict_3 h = let e = third_differs same_stability same_difficulty same_interval h in (eqb-true _ _ e.0, eqb-true _ _ e.1, eqb-false _ _ e.2)
+  verdict_3 h = let e = third_differs (same_stability claimed ours) (same_difficulty claimed ours) (same_interval claimed ours) h in (eqb-true _ _ e.0, eqb-true _ _ e.1, eqb-false _ _ e.2)
 
   pub verdict_same :
       claimed.stability ≡ ours.stability → claimed.difficulty ≡ ours.difficulty → claimed.interval ≡ ours.interval

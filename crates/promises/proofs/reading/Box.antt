@@ -1,15 +1,15 @@
 -- One weight changed within the box. Assumes nothing.
 use Prim.Native.Nat.{ℕ, zero, suc, ◌≤◌, ◌<◌}
-use mathlib.Core.Bool.{Bool, true, false, ◌&&◌}
+use mathlib.Core.Bool.{Bool, true, false}
 use mathlib.Core.List.{List}
-use mathlib.Core.Path.{◌≡◌, refl, sym, ◌∙◌, subst}
+use mathlib.Core.Path.{◌≡◌, refl, sym, subst}
 use native.Mathlib.Nat.{le_refl, le_of_lt}
 use borrow.Author.Tests.{eq-eqb, eqb-true, eqb-false}
 use lib.Dec.{eqb}
 use lib.Ieee.{Float, nan}
 use lib.ListN.{length, length-set, set}
 use lib.Seq.{get_or-set_same, get_or-set_other}
-use Rattle.domain.specs.Weights.{◌!◌, in_box, all, boxed, weights_refusal_def}
+use Rattle.domain.specs.Weights.{◌!◌, in_box, all, weights_refusal_def}
 use Rattle.domain.proofs.weights.Accepted.{accepted_length, accepted_box}
 use Rattle.analytic_v6.proofs.cards.Entry.{halves}
 

@@ -9,14 +9,13 @@ use lib.Dec.{eqb, leb, ltb}
 use lib.Ieee.{Float}
 use lib.ListN.{length}
 use Rattle.domain.specs.Weights.{weights_refusal_def}
-use Rattle.checks.specs.Align.{is_end_def, counts}
+use Rattle.checks.specs.Align.{is_end_def}
 use Rattle.checks.specs.Reads.{later, is_last, card_rating, card_label}
 use Rattle.checks.proofs.align.First.{first_same}
 use Rattle.checks.proofs.align.Counted.{counts_same, weighed_same}
 use Rattle.checks.proofs.reads.Unread.{and_same, card_day_read, card_label_read}
 use Rattle.checks.specs.Batch.{Cards, length_at, first_at, at, weight_at_def}
 use Rattle.checks.specs.Faults.{first_fault_def, card_column_def, card_fault_def}
-use Rattle.checks.specs.declared.align.Align.{Align}
 use Rattle.checks.specs.declared.fault.Fault.{Fault}
 use Rattle.checks.specs.Refusals.{loss_refusal_def, grad_refusal_def, longest_of, cards_sized, card_loss_refusal_def, card_grad_refusal_def}
 use Rattle.checks.proofs.Orders.{grad_accepted}

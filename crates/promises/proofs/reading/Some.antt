@@ -1,6 +1,6 @@
 -- A test of some number below n. Assumes nothing.
 use Prim.Native.Nat.{ℕ, zero, suc, ◌<◌}
-use mathlib.Core.Bool.{Bool, true, false, ◌||◌}
+use mathlib.Core.Bool.{Bool, true, false}
 use mathlib.Core.Path.{◌≡◌, refl, sym, ◌∙◌, subst}
 use native.Mathlib.Nat.{le-suc, lt_of_lt_of_le, lt-suc_self, not-suc-le-zero}
 use native.Mathlib.Omega.{arith}

@@ -1,7 +1,7 @@
 -- Next to 1: t - t^2/2 + t^3/3 against L's series, for 0 ≤ t ≤ 1/512, by P(t + t^3/3) against (1 + t) P(t^2/2). Assumes nothing.
 use mathlib.Core.Path.{◌≡◌}
 use mathlib.Core.List.{List, [], ◌∷◌}
-use Prim.Native.Nat.{ℕ, ◌+◌, ◌*◌, ◌^◌, ◌≤◌, ◌<◌}
+use Prim.Native.Nat.{ℕ, ◌+◌, ◌*◌, ◌^◌, ◌≤◌}
 use native.Mathlib.Omega.{arith}
 use lib.Dec.{T, lit<, lit≤}
 use Rattle.table.proofs.Exact.Poly.{h, add, scale, axpy, mul, comp}

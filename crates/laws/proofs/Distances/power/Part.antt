@@ -1,6 +1,6 @@
 -- The two chains as the definition cuts them. Assumes nothing.
 use mathlib.Core.List.{[], ◌∷◌}
-use Prim.Native.Nat.{ℕ, ◌+◌, ◌*◌, ◌/◌, ◌^◌, ◌≤◌, ◌<◌}
+use Prim.Native.Nat.{ℕ, ◌+◌, ◌*◌, ◌/◌, ◌^◌, ◌≤◌}
 use native.Mathlib.Nat.{le_trans, div-mul-le_self}
 use native.Mathlib.Omega.{arith}
 use lib.Dec.{lit<, lit≤}

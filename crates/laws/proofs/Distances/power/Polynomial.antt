@@ -1,7 +1,7 @@
 -- The chains for e ^ s - 1 against P: s = f / W of a step, f ≤ W, in units of 1 / scale_of. Assumes nothing.
 use mathlib.Core.Path.{◌≡◌, refl, ap, ◌∙◌}
 use mathlib.Core.List.{List, [], ◌∷◌}
-use Prim.Native.Nat.{ℕ, zero, suc, ◌+◌, ◌*◌, ◌^◌, ◌≤◌, ◌<◌}
+use Prim.Native.Nat.{ℕ, zero, suc, ◌+◌, ◌*◌, ◌^◌, ◌≤◌}
 use native.Mathlib.Nat.{mul_comm, mul-le-mul_left}
 use native.Mathlib.Omega.{arith}
 use lib.Dec.{T, lit<, lit≤}

@@ -1,0 +1,12 @@
+use Prim.Native.Nat.{◌≤◌, ◌-◌}
+use mathlib.Core.Path.{◌≡◌}
+use Rattle.checks.specs.Batch.{prefixes_in_def}
+use Rattle.checks.specs.Columns.{total}
+use Rattle.analytic_v6.specs.Prefixes.{prefix_loss_def}
+use Rattle.analytic_v6.proofs.prefixes.loss.batch_total.Given as goal
+
+abbrev pub invariant-loop-c : goal.invariant-loop-c
+invariant-loop-c l = (l.c ≤ l.batch) × (l.loss ≡ total (prefix_loss_def l.p (prefixes_in_def l.align l.t_hist l.r_hist l.seq_len l.batch l.seq_lens l.delta_ts l.labels l.weights)) l.c)
+
+abbrev pub decreases-loop-c : goal.decreases-loop-c
+decreases-loop-c l = l.batch - l.c

@@ -1,0 +1,13 @@
+use Rattle.std.proofs.Common.{◌≡◌, ◌≤◌, length, get_or}
+use Rattle.domain.specs.Doubles.{zero64}
+use Rattle.columns.specs.BackwardPass.{start_grad, back_def}
+use Rattle.columns.specs.StepRecords.{no_step_def}
+use Rattle.columns.proofs.step_records.prefix_backward_steps.Given as goal
+
+abbrev pub invariant-loop-i : goal.invariant-loop-i
+invariant-loop-i l =
+    (l.i ≤ l.n) × (length l.gw ≡ length l.initial.gw) ×
+    (back_def l.p (λ k. get_or l.records k no_step_def) (λ k. zero64) l.i l.g l.gw ≡ back_def l.p (λ k. get_or l.records k no_step_def) (λ k. zero64) l.n (start_grad l.g_s) l.initial.gw)
+
+abbrev pub decreases-loop-i : goal.decreases-loop-i
+decreases-loop-i l = l.i

@@ -1,0 +1,25 @@
+// A starting stability from first recalls.
+ghost use Rattle.fsrs6.specs.Places.{written};
+ghost use Rattle.parameter_initialization.specs.Start.{start_answer};
+ghost use Rattle.std.specs.Prelude.{◌≡◌};
+
+#[unsafe(no_mangle)]
+pub extern "C" fn fsrs_initial_stability(
+    delta_t: &[f64],
+    recall: &[f64],
+    count: &[f64],
+    default_stability: f64,
+    stability: &mut f32,
+) -> u32
+    ensures { let a = start_answer delta_t.now recall.now count.now default_stability in
+        (result ≡ a.refusal) ×
+        (stability.new ≡ written a.refusal a.value stability.old) }
+{
+    fsrs6::initialization::fsrs_initial_stability(
+        delta_t,
+        recall,
+        count,
+        default_stability,
+        stability,
+    )
+}

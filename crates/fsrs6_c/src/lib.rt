@@ -1,0 +1,13 @@
+// The C functions of include/fsrs6.h, in its order. Each is one call of the entry that proves it; its answers are written where
+// the call was accepted, and the refusal's number is returned. Those that say why (`why`) return their whole answer.
+#![tactic(auto)]
+
+pub mod arithmetic;
+pub mod cards;
+pub mod file;
+pub mod initialization;
+pub mod penalty;
+pub mod prefixes;
+pub mod step;
+pub mod study;
+pub mod why;

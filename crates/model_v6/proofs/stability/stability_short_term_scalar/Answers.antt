@@ -1,0 +1,19 @@
+use Rattle.std.proofs.Common.{◌∙◌}
+use Rattle.model_v6.specs.Answers.{stability_short_term_scalar_def}
+use Rattle.model_v6.proofs.answers.Answering.{answers_refused, answers_accepted, answers_copied}
+use Rattle.model_v6.proofs.stability.stability_short_term_scalar.Goals as goal
+
+pub returns-then-n-ne0 : goal.returns-then-n-ne0
+unfolding stability_short_term_scalar_def
+returns-then-n-ne0 c =
+    rw (← c.is_stability.ensures, ← c.is_rating.ensures, ← c.both.ensures)
+    (c.refused.ensures ∙ answers_refused _ _ _ _ c.scalar_refusal-n.ensures c.if-n-ne0.true)
+
+pub returns : goal.returns
+unfolding stability_short_term_scalar_def
+returns c =
+    let e = c.scalar_refusal-n.ensures in
+    let h = c.if-n-ne0.false in
+    rw (← c.is_stability.ensures, ← c.is_rating.ensures, ← c.both.ensures)
+    (c.accepted.ensures ∙
+    rw (c.stability_short_term.ensures, answers_copied _ _ _ _ e h c.copy_weights-v.ensures) (answers_accepted _ _ _ _ e h))
