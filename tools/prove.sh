@@ -1,12 +1,13 @@
 # Sourced by ./batchgrad, ./run and ./lib, which set `root` to the repository's folder: calls rt where that is needed, and one
 # run at a time.
 #
-#   find_kit                      sets `kit` to the kit's folder and `tools` to what it has for this machine
+#   find_kit                      sets `kit` to the kit's folder and `tools` to its compiler, linker and C library
 #   made NAME PRODUCT MAKE...     has MAKE... write PRODUCT, unless it did so before and nothing has changed since
-#   prove CRATE                   rt check, with a line for each crate as it is proved
+#   prove CRATE COMMAND           rt lib for each crate below, and rt COMMAND for the crate, with a line for each as it is proved
 #   quietly COMMAND...            shows what the command says only where it fails
+#   place FROM TO                 copies a product to its place, whole
 #   open_input FILE               has standard input read FILE, or ends the script with 4
-#   build PROGRAM                 prove, for a program
+#   build PROGRAM                 prove, for a program, and copies it to target/bin
 #   start PROGRAM                 becomes a program that was made
 #
 # What is said goes to standard error, after the command as it was called. Any other failure ends the script with 1.
@@ -29,24 +30,26 @@ quietly() {
     }
 }
 
-# The kit is where the rt on the PATH really stands.
+# The kit is where the rt on the PATH really stands. It is for x86-64 alone.
 find_kit() {
     rt=$(command -v rt) || fail 1 "there is no rt on the PATH"
-    kit=${RATTLE_HOME:-$(dirname "$(dirname "$(readlink -f "$rt")")")}
-    tools=$kit/on/$(uname -m)/toolchain
-    [ -d "$tools" ] || fail 1 "the kit at $kit has nothing for this machine"
+    kit=$(dirname "$(dirname "$(readlink -f "$rt")")")
+    tools=$kit/toolchain
+    [ -d "$tools" ] || fail 1 "the kit at $kit has no toolchain"
+    [ "$(uname -m)" = x86_64 ] || fail 1 "the kit at $kit has nothing for this machine: it is for x86-64"
 }
 
 # ---- what was made
 
 # A stamp has two numbers, for what a product rests on and for the product. The first is over the kit's identity, the machine,
 # and the name and contents of every source (lib says how the archives are compiled): a file that is new, gone, renamed or
-# changed makes another one, whatever its date. The second sees a product that was made anew since, as by rt called by hand.
+# changed makes another one, whatever its date. The second sees a product that was changed since. What rt keeps in a crate's out/
+# is no source.
 sources() {
     {
         cat "$kit/KIT-ID"
         uname -m
-        (cd "$root" && find crates.txt crates lib -type f -exec sha256sum {} +) | sort
+        (cd "$root" && find crates.txt crates lib -path 'crates/*/out' -prune -o -type f -exec sha256sum {} +) | sort
     } | sha256sum
 }
 
@@ -72,8 +75,9 @@ made() { # NAME PRODUCT MAKE...
 
 # ---- one run at a time
 
-# Two calls of rt on one target/ spoil each other's work. The lock is the kernel's, on the repository's folder, and goes with
-# the last process that has it open: so it is never left behind, and the rt of a run that was killed holds it until it ends.
+# Two runs that prove one crate would do the work twice, and rt ci sets the work of other runs aside while it is at its own. The
+# lock is the kernel's, on the repository's folder, and goes with the last process that has it open: so it is never left behind,
+# and the rt of a run that was killed holds it until it ends.
 lock() {
     exec 9<"$root"
     if ! command -v flock >/dev/null; then
@@ -101,40 +105,40 @@ stands_on() { # CRATE
             print n
         }
         { sub(/#.*/, "") }
-        split($0, side, ":") == 2 { below[side[1]] = side[2] }
+        split($0, side, ":") == 2 { split(side[1], name, " "); below[name[1]] = side[2] }
         END { visit(crate) }' "$root/crates.txt"
 }
 
-# Reads what rt says, and at last its status: a line for each crate as it is proved, and all of it where it failed.
-tell() { # LEFT
-    left=$1 all='' last=''
-    while IFS= read -r line; do
-        all="$all$last
-" last=$line
-        case $line in
-        'rt: '*' proved (unchanged '*) left=$((left - 1)) ;;
-        'rt: '*' proved ('*)
-            left=$((left - 1))
-            say "${line#rt: }, $left left"
-            ;;
-        esac
-    done
-    [ "$last" = 0 ] || {
-        printf '%s' "$all" >&2
-        return 1
-    }
-}
-
-prove() { # CRATE
-    crates=$(stands_on "$1") new=0
+# rt says nothing of a library that it has proved before and that is unchanged, and it says how far it is with any other.
+prove() { # CRATE COMMAND
+    crates=$(stands_on "$1") new=0 left=0
     for crate in $crates; do
-        [ -f "$root/target/stamp/$crate" ] || new=$((new + 1))
+        left=$((left + 1))
+        is_known "$crate" || new=$((new + 1))
     done
     [ $new = 0 ] || say "$new crates have to be proved first, which takes some minutes"
-    {
-        (cd "$root" && rt check "$1" </dev/null 2>&1)
-        printf '\n%s\n' $?
-    } | tell "$(printf '%s\n' "$crates" | wc -l)" || exit 1
+    for crate in $crates; do
+        left=$((left - 1)) began=$(date +%s)
+        [ "$crate" = "$1" ] && command=$2 || command=lib
+        said=$(cd "$root/crates/$crate" && rt "$command" 2>&1 </dev/null) || {
+            printf '%s\n' "$said" >&2
+            fail 1 "$crate is not proved"
+        }
+        [ -z "$said" ] || say "$crate proved ($(($(date +%s) - began)) s), $left left"
+    done
+}
+
+# Whether rt has proved this crate here before, in whatever form.
+is_known() { # CRATE
+    for kept in rlib/stamp "$1" "lib$1.a"; do
+        [ ! -f "$root/crates/$1/out/$kept" ] || return 0
+    done
+    return 1
+}
+
+# Whoever uses the product meanwhile sees the old one or the new one, whole.
+place() { # FROM TO
+    mkdir -p "${2%/*}" && cp "$1" "$2.new" && mv "$2.new" "$2" || exit 1
 }
 
 # ---- programs
@@ -145,15 +149,14 @@ open_input() { # FILE
     command exec <"$1" || fail 4 "cannot read $1"
 }
 
-# rt leaves out what it has proved before; but it is wanted where the program is gone.
+# rt run builds the program and then runs it, here on no input. rt ci sets a crate's out/ aside while it is at work, so the program is
+# started from a copy.
 build() { # PROGRAM
-    [ -x "$root/target/bin/$1" ] || rm -f "$root/target/stamp/$1"
-    prove "$1"
+    prove "$1" run
+    place "$root/crates/$1/out/$1" "$root/target/bin/$1"
 }
 
-# Programs are for x86-64: on another processor the kit has an emulator.
+# Over the kit's own C library, as it was linked.
 start() { # PROGRAM
-    set -- "$tools/lib/ld-linux-x86-64.so.2" --library-path "$tools/lib" "$root/target/bin/$1"
-    [ ! -x "$tools/bin/qemu-x86_64" ] || set -- "$tools/bin/qemu-x86_64" "$@"
-    exec "$@"
+    exec "$tools/lib/ld-linux-x86-64.so.2" --library-path "$tools/lib" "$root/target/bin/$1"
 }

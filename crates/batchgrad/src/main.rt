@@ -3,6 +3,8 @@
 // the script ./batchgrad, which tells them in words.
 #![tactic(auto)]
 
+ghost use Rattle.std.specs.Prelude.{◌≤◌, IfOk, length};
+
 use batch::fault::file_fault;
 use batch::run_file;
 use checks::fault::Fault;
@@ -10,7 +12,7 @@ use soft::units::pattern;
 use std::io::{self, Read};
 
 // One byte more than the longest file has, so that a longer one is seen to be.
-const ROOM: u64 = 65537;
+const ROOM: usize = 65537;
 
 fn print_bits(rt: &impl Print, x: f64) -> io::Result<()> {
     println!(rt; "{:016x}", pattern(x))
@@ -51,8 +53,23 @@ fn run(rt: &(impl Print + Eprint), file: &[u8]) -> io::Result<()> {
     print_slots(rt, &gw)
 }
 
+// Reads until the bytes are full or the input ends, and says how many came: they stand first.
+fn read_full(reader: &mut impl Read, bytes: &mut [u8]) -> io::Result<usize>
+    ensures { IfOk result (λ n. n ≤ length bytes.new) }
+{
+    let mut n = 0;
+    while n < bytes.len() {
+        let count = reader.read(&mut bytes[n..])?;
+        if count == 0 {
+            break;
+        }
+        n += count;
+    }
+    Ok(n)
+}
+
 fn main(rt: HostRuntime) -> io::Result<()> {
-    let mut file = Vec::new(rt.alloc());
-    rt.reader().take(ROOM).read_to_end(&mut file)?;
-    run(&rt, &file)
+    let mut bytes = [0u8; ROOM];
+    let n = read_full(&mut rt.reader(), &mut bytes)?;
+    run(&rt, &bytes[..n])
 }

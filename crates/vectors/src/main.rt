@@ -3,6 +3,8 @@
 // those of the Rust's own text over our kernels (`oracle/run --sample`). This program only compares.
 #![tactic(auto)]
 
+ghost use Rattle.std.specs.Prelude.{◌<◌, ◌≤◌, ◌^◌, IfOk, length};
+
 mod arithmetic;
 mod counts;
 mod digests;
@@ -158,6 +160,39 @@ fn run_text(
     print_counts(rt, names, &passed, &tried, first)
 }
 
+// Reads until the bytes are full or the input ends, and says how many came: they stand first.
+fn read_full(reader: &mut impl Read, bytes: &mut [u8]) -> io::Result<usize>
+    ensures { IfOk result (λ n. n ≤ length bytes.new) }
+{
+    let mut n = 0;
+    while n < bytes.len() {
+        let count = reader.read(&mut bytes[n..])?;
+        if count == 0 {
+            break;
+        }
+        n += count;
+    }
+    Ok(n)
+}
+
+// Runs the list in a file of fewer than N bytes.
+fn run_open<const N: usize>(
+    rt: &impl Print,
+    kind: Kind,
+    file: &mut impl Read,
+    letters: &[u8],
+    names: &[&str],
+) -> io::Result<()>
+    requires { N < 2 ^ 63 }
+{
+    let mut text = [0u8; N];
+    let n = read_full(file, &mut text)?;
+    if n == N {
+        return print_line(rt, "failed: it is too long");
+    }
+    run_text(rt, kind, &text[..n], letters, names)
+}
+
 // Runs the list in the file `name`. Its lines begin with one of the letters, and count for the name in the same place.
 fn run_list(
     rt: &HostRuntime,
@@ -169,14 +204,7 @@ fn run_list(
     print_line(rt, name)?;
     match File::open(rt, name) {
         Err(_) => print_line(rt, "failed: it cannot be opened"),
-        Ok(mut file) => {
-            let mut text = Vec::new(rt.alloc());
-            file.read_to_end(&mut text)?;
-            if text.len() >= BYTES {
-                return print_line(rt, "failed: it is too long");
-            }
-            run_text(rt, kind, &text, letters, names)
-        }
+        Ok(mut file) => run_open::<BYTES>(rt, kind, &mut file, letters, names),
     }
 }
 
