@@ -33,7 +33,7 @@ fn words(numbers: &[f32]) -> String {
     numbers.iter().map(f32::to_string).collect::<Vec<_>>().join(" ")
 }
 
-/// The numbers of the weights that stay as they are (docs/PROMISES.md, `unread-weight`).
+/// The numbers of the weights that stay as they are (docs/PROMISES.md, `unread_weight`).
 fn frozen(trainer: &Trainer) -> String {
     let numbers: Vec<String> = (0..21).filter(|&k| !trainer.reads[k]).map(|k| k.to_string()).collect();
     if numbers.is_empty() {

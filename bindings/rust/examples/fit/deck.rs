@@ -135,7 +135,7 @@ impl Deck {
     }
 
     /// The weights that the deck's steps read, by document 01's table: no other can change a loss or a gradient, whatever
-    /// its value (docs/PROMISES.md, `unread-weight`). Steps run on all rows of a history, and on all of a card but its last.
+    /// its value (docs/PROMISES.md, `unread_weight`). Steps run on all rows of a history, and on all of a card but its last.
     pub fn reads(&self) -> [bool; WEIGHTS] {
         let mut reads = [false; WEIGHTS];
         reads[20] = true; // every call reads it
