@@ -109,7 +109,8 @@ stands_on() { # CRATE
         END { visit(crate) }' "$root/crates.txt"
 }
 
-# rt says nothing of a library that it has proved before and that is unchanged, and it says how far it is with any other.
+# rt says nothing of a library that it has proved before and that is unchanged, and it says how far it is with any other: in
+# target/rt.log, so that it goes on where this run is killed.
 prove() { # CRATE COMMAND
     crates=$(stands_on "$1") new=0 left=0
     for crate in $crates; do
@@ -120,11 +121,11 @@ prove() { # CRATE COMMAND
     for crate in $crates; do
         left=$((left - 1)) began=$(date +%s)
         [ "$crate" = "$1" ] && command=$2 || command=lib
-        said=$(cd "$root/crates/$crate" && rt "$command" 2>&1 </dev/null) || {
-            printf '%s\n' "$said" >&2
+        (mkdir -p "$root/target" && cd "$root/crates/$crate" && rt "$command" >"$root/target/rt.log" 2>&1 </dev/null) || {
+            cat "$root/target/rt.log" >&2
             fail 1 "$crate is not proved"
         }
-        [ -z "$said" ] || say "$crate proved ($(($(date +%s) - began)) s), $left left"
+        [ ! -s "$root/target/rt.log" ] || say "$crate proved ($(($(date +%s) - began)) s), $left left"
     done
 }
 
