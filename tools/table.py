@@ -29,23 +29,23 @@ def literal(n):
 
 SOURCE = """// The fractional powers of two: 2^62 * 2^(i / 256), cut to a whole number; 2^63 from 256 on. `tools/table.py` writes the
 // arms. A `match` of constants compiles to one load, where a constant array is built anew at each call.
+#![tactic(auto)]
+
 pub mod index;
 
-ghost use mathlib.Core.Path.{_≡_};
-ghost use Prim.Native.Nat.{_^_};
-ghost use lib.ListN.{getD};
-ghost use Rattle·table·specs.specs.Entry.{entry};
-ghost use Rattle·table·specs.specs.inner.Lists.{powers, None};
+ghost use Rattle.std.specs.Prelude.{◌≡◌, ◌^◌, get_or};
+ghost use Rattle.table.specs.Entry.{entry};
+ghost use Rattle.table.specs.inner.Lists.{powers, None};
 
 fn past(i: u64) -> u64
-    requires { ⌜ None 256 i ⌝ }
-    ensures { λ r. ⌜ r ≡ getD powers i (2 ^ 63) ⌝ }
+    requires { None 256 i }
+    ensures { result ≡ get_or powers i (2 ^ 63) }
 {
     0x8000_0000_0000_0000
 }
 
 fn stored(i: u64) -> u64
-    ensures { λ r. ⌜ r ≡ getD powers i (2 ^ 63) ⌝ }
+    ensures { result ≡ get_or powers i (2 ^ 63) }
 {
     match i {
 %s        _ => past(i),
@@ -53,7 +53,7 @@ fn stored(i: u64) -> u64
 }
 
 pub fn entry_at(i: u64) -> u64
-    ensures { λ r. ⌜ r ≡ entry i ⌝ }
+    ensures { result ≡ entry i }
 {
     stored(i)
 }
@@ -61,21 +61,19 @@ pub fn entry_at(i: u64) -> u64
 
 INDEX = """// The first entry at or above every significand of an interval, by the 9 digits below the leading one. `tools/table.py`
 // writes the arms.
-ghost use mathlib.Core.Path.{_≡_};
-ghost use Prim.Native.Nat.{_%%_};
-ghost use lib.ListN.{getD};
-ghost use Rattle·table·specs.specs.Entry.{indexAt};
-ghost use Rattle·table·specs.specs.inner.Lists.{firsts, None};
+ghost use Rattle.std.specs.Prelude.{◌≡◌, ◌%%◌, get_or};
+ghost use Rattle.table.specs.Entry.{index_at_def};
+ghost use Rattle.table.specs.inner.Lists.{firsts, None};
 
 fn past(k: u64) -> u64
-    requires { ⌜ None 512 k ⌝ }
-    ensures { λ r. ⌜ r ≡ getD firsts k 256 ⌝ }
+    requires { None 512 k }
+    ensures { result ≡ get_or firsts k 256 }
 {
     256
 }
 
 fn stored(k: u64) -> u64
-    ensures { λ r. ⌜ r ≡ getD firsts k 256 ⌝ }
+    ensures { result ≡ get_or firsts k 256 }
 {
     match k {
 %s        _ => past(k),
@@ -84,7 +82,7 @@ fn stored(k: u64) -> u64
 
 // Of k the last 9 digits count.
 pub fn index_at(k: u64) -> u64
-    ensures { λ r. ⌜ r ≡ indexAt (k %% 512) ⌝ }
+    ensures { result ≡ index_at_def (k %% 512) }
 {
     stored(k %% 512)
 }
@@ -92,8 +90,7 @@ pub fn index_at(k: u64) -> u64
 
 LISTS = """-- The two tables' numbers as the code has them: `proofs/Rules.antt` tests the rule of each once over the whole list. `tools/table.py`
 -- writes this file. Assumes nothing.
-use Prim.Native.Nat.{ℕ, zero, suc}
-use mathlib.Core.List.{List, [], _∷_}
+use Rattle.std.specs.Prelude.{ℕ, zero, suc, List, [], ◌∷◌}
 use types.Run.{OneOf}
 
 abbrev pub powers : List ℕ

@@ -4,7 +4,8 @@ use std::env;
 use std::path::{Path, PathBuf};
 use std::process::exit;
 
-/// What is delivered is for x86-64; for another processor there is the archive of `./lib --native`.
+/// What is delivered is for x86-64, as the kit is. For another processor an archive is looked for where `./lib --native` writes
+/// the one of its machine.
 fn usual_folder() -> (PathBuf, &'static str) {
     let is_x86_64 = env::var("CARGO_CFG_TARGET_ARCH").as_deref() == Ok("x86_64");
     let (name, command) = if is_x86_64 { ("lib", "./lib") } else { ("native", "./lib --native") };

@@ -7,7 +7,7 @@
 //!     cargo run --release --example fit -- --deck [SEED]     writes such a deck, generated from known weights
 //!
 //! Status 1: the deck cannot be used, with the line that is wrong; 2: wrong usage. The archive is that which build.rs
-//! finds: on x86-64 what `./lib` writes, on another processor, such as aarch64, what `./lib --native` compiles for it.
+//! finds: on x86-64 what `./lib` writes.
 
 #[path = "fit/adam.rs"]
 pub mod adam;

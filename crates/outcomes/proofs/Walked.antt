@@ -1,4 +1,4 @@
--- Of each public function that is walked by hand: its contract says its claim, leaves one outcome, and, where it can refuse, keeps what it was lent. Assumes nothing.
+-- Of each public function to which a slice of step records is lent: its contract says its claim, leaves one outcome, and, where it can refuse, keeps what it was lent. Assumes nothing.
 use mathlib.Core.Path.{ap, ◌∙◌}
 use base.Logic.{id⊢}
 use Rattle.outcomes.specs.Outcome.{States, OneWalked, KeptWalked, one_walked, keeps_walked}

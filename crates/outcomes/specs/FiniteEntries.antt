@@ -32,7 +32,7 @@ abbrev pub FiniteLoss :
 FiniteLoss {n} ps r C K loss weights input =
     (κs : Lfts n) (a : Dens κs ps) (o : Outcome ps r κs a) → Satisfies ps r C κs a o → Singles K (weights κs a) (input κs a) → Finite (loss κs o.0)
 
--- likewise of one that is walked by hand
+-- likewise of one to which a slice of step records is lent
 abbrev pub FiniteWalked :
     (T : Ended) (C : Claim T) (K : Kind) (loss : (κs : Lfts T.signature.lifetimes) → Res T.signature κs → Float)
     (call : (κs : Lfts T.signature.lifetimes) → Args T.signature κs → Call K.Input) → Type 0

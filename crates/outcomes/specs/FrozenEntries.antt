@@ -39,7 +39,7 @@ module _ {n : ℕ} (ps : List (ParamKind n)) (r : ResultKind n) (C : Out n ps r)
         (k : ℕ) → K.refusal (call κs a) ≡ 0 → may_move K (call κs a) k ≡ false →
         slots κs (left ps r κs a o) ! k ≡ (call κs a).gw ! k
 
--- likewise of one that is walked by hand
+-- likewise of one to which a slice of step records is lent
 module _ (T : Ended) (C : Claim T) (K : Kind) (call : (κs : Lfts T.signature.lifetimes) → Args T.signature κs → Call K.Input)
     (slots : (κs : Lfts T.signature.lifetimes) → AtExit T κs → List Float) where
   pub record EntryWalked : Type 0 where

@@ -71,8 +71,8 @@ pub keeps :
     → Kept ps r number same-type C
 keeps e h = record { kept = λ κs a o c k. h κs a o c.1 (subst Refused (e κs a o c.1) k) }
 
--- A function that is walked by hand has no list of kinds: the kit hands out its `Ended` T, the signature with what is kept of each parameter, and its clauses. C is its
--- claim, written out, and `States` is that its `ensures` says C
+-- Of a function to which a slice of step records is lent the claim is written out, over what the kit hands out: its `Ended` T, the signature with what is kept of each
+-- parameter, and its clauses. C is its claim, and `States` is that its `ensures` says C
 module _ (T : Ended) where
   abbrev pub Claim : Type 1
   Claim = (κs : Lfts T.signature.lifetimes) → Args T.signature κs → Res T.signature κs → AtExit T κs → Type 0

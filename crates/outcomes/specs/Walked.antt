@@ -1,4 +1,4 @@
--- The claims of the public functions that are walked by hand, since a slice of step records is lent to them; each is its `ensures` word for word. Assumes nothing.
+-- The claims of the public functions to which a slice of step records is lent, written out; each is its `ensures` word for word. Assumes nothing.
 use contract.Lifetimes.{Lfts}
 use Rattle.std.specs.Prelude.{◌≡◌, length, get_or}
 use denote.Triple.Entry.{Args}

@@ -87,7 +87,7 @@ pub record Aligned : Type 0 where
   pub card :
       (p : RuntimeParams) (x y : Cards) (column : ℕ) → ShiftedCard x y column
       → (card_loss_def p x column ≡ card_loss_def p y column) × ((gw : List Float) → card_slots_def p x column gw ≡ card_slots_def p y column gw)
-  -- 'An all_padding prefix scores nothing': a loss of +0.0, and no slot moves
+  -- 'An all-padding prefix scores nothing': a loss of +0.0, and no slot moves
   pub all_padding :
       (p : RuntimeParams) (x : Prefixes) (column : ℕ) → x.table.align ≡ End → first_at x.table column ≡ length_at x.table column
       → (prefix_loss_def p x column ≡ zero64) × ((gw : List Float) → prefix_slots_def p x column gw ≡ gw)

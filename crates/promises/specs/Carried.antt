@@ -30,7 +30,7 @@ pub record Carried : Type 0 where
   pub not_earlier :
       (w : List Float) (seen : Seen) (day rating : ℕ) → weights_refusal_def w ≡ 0 → T (finite_memory seen.state) → day ≤ day_number_max
       → seen.day ≤ day → (on_day_scalar w seen day rating).refusal ≡ 0
-  -- 'the same day is same_day study'
+  -- 'the same day is same-day study'
   pub same_day :
       (w : List Float) (seen : Seen) (rating : ℕ) → (on_day_scalar w seen seen.day rating).refusal ≡ 0
       → (on_day_scalar w seen seen.day rating).seen.state.stability

@@ -1,4 +1,4 @@
--- Whole numbers of either sign. `shr_z` of lib.Signed is the quotient by m, rounded down, and `rest_z` what it leaves: z = shrZ z m * m + rest_z z m.
+-- Whole numbers of either sign. `shr_z` of Rattle.std.specs.Int.Signed is the quotient by m, rounded down, and `rest_z` what it leaves: z = shr_z z m * m + rest_z z m.
 -- Assumes nothing.
 use Rattle.std.specs.Prelude.{ℕ, suc, ◌-◌, ◌%◌, Bool, true, false, not, ℤ, pos, negsuc, neg_ℤ}
 use Rattle.std.specs.Int.Signed.{non_neg}

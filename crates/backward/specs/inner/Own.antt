@@ -1,5 +1,5 @@
 -- A branch's own part of a step's reverse: all but what goes back through the difficulty's update, which every review but the first has alike.
--- proofs/Flow.antt has that the two make flowDef and flowMoved. Assumes nothing.
+-- proofs/Flow.antt has that the two make flow_def and flow_moved. Assumes nothing.
 use Rattle.std.specs.Prelude.{Bool, true, false, List, Float}
 use Rattle.domain.specs.Doubles.{◌+ᵈ◌, zero64}
 use Rattle.forward.specs.declared.parameters.RuntimeParams.{RuntimeParams}

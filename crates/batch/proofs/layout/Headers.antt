@@ -50,7 +50,7 @@ module _ (file : List ℕ) where
   unfolding placed
   end_by h s p = eqb-true (length file) (4 * h.end) (right_of (offset_is file 3 h.weights) _ (left_of _ _ (left_of _ _ (right_of s _ p))))
 
-  -- a well_formed file has at most 16,384 words
+  -- a well-formed file has at most 16,384 words
   pub end_small : well_formed_def file ≡ true → (sections_of file).end ≤ 16384
   unfolding well_formed_def
   end_small w =

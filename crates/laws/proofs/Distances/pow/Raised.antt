@@ -1,4 +1,4 @@
--- y times a logarithm, by its sign and its size: `raised` is ±raisedN, and the size is near y times the exact logarithm where the logarithm is near its
+-- y times a logarithm, by its sign and its size: `raised` is ±raised_n, and the size is near y times the exact logarithm where the logarithm is near its
 -- own. Assumes nothing.
 use mathlib.Core.Path.{◌≡◌, refl, sym, ap, ◌∙◌}
 use mathlib.Core.Bool.{Bool, true, false}
