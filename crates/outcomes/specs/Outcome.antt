@@ -20,7 +20,7 @@ Refused k = k ≡ 0 → ⊥
 -- A function has n lifetimes, parameters of the kinds ps and an answer of the kind r. Its contract C is the claim of its own
 -- `ensures`, which the kit hands out as `Post`:
 -- C κs a z e is said of a call's lifetimes κs, its arguments a, its answer z and the parameters e as the call leaves them. The
--- kit's names: Dens κs ps are the arguments, res_t r κs .Denot the answers,
+-- kit's names: Dens κs ps are the arguments, (res_t r κs).Denot the answers,
 -- Lasts .. κs a what a call can leave in that which it was lent, and at_exit .. κs a ws its parameters then.
 module _ {n : ℕ} (ps : List (ParamKind n)) (r : ResultKind n) where
   -- 'the returned value and the final contents of every lent slice', where the arguments are a: the answer, and for each parameter
