@@ -1,5 +1,5 @@
 -- The entry's answer: refused, or accepted; what an accepted one lies between; and what no rows give. Assumes nothing.
-use Rattle.std.proofs.Common.{◌≡◌, ℕ, Bool, true, false, cond, T, eqb, List, [], length, sym, refl, ap, ◌∙◌, subst, ne_eqb}
+use Rattle.std.proofs.Common.{◌≡◌, ℕ, Bool, true, false, T, List, [], length, sym, refl, ap, ◌∙◌, subst, arith, ne_eqb}
 use lib.Ieee.{Float, binary32, lt, le, eq, neg, of_bits}
 use Rattle.soft.specs.Narrow.{narrow_def}
 use Rattle.domain.specs.Floats.{within}
@@ -22,20 +22,22 @@ module _ (days shares counts : List Float) (default : Float) (n : ℕ) (e : n �
   answer_accepted z = rw (← e, z)
 
 -- ---- an accepted default passed its test
-none_13 : (a b : Bool) (m : ℕ) → cond a (cond b m 13) 3 ≡ 0 → T b
-none_13 true true m h = tt
-none_13 true false m h = absurd (subst (λ (k : ℕ). T (eqb k 13)) h tt)
-none_13 false b m h = absurd (subst (λ (k : ℕ). T (eqb k 3)) h tt)
-
 module _ (days shares counts : List Float) (default : Float) where
   number_is : (start_answer days shares counts default).refusal ≡ start_refusal_def days shares counts default
   unfolding start_answer
   number_is = refl
 
-  accepted_default : start_refusal_def days shares counts default ≡ 0 → T (default_good default)
+  -- by what the two tests say, so that it rests on no order of the numbers
+  passed :
+      (a b : Bool) → sized (length days) (length shares) (length counts) ≡ a → default_good default ≡ b
+      → start_refusal_def days shares counts default ≡ 0 → T b
   unfolding start_refusal_def
-  accepted_default h =
-      none_13 (sized (length days) (length shares) (length counts)) (default_good default) (rows_number_def days shares counts) h
+  passed a true e f h = tt
+  passed true false e f h = absurd (omega (arith, simp (e, f) at h))
+  passed false false e f h = absurd (omega (arith, simp (e, f) at h))
+
+  accepted_default : start_refusal_def days shares counts default ≡ 0 → T (default_good default)
+  accepted_default h = passed (sized (length days) (length shares) (length counts)) (default_good default) refl refl h
 
   def_inside : T (default_good default) → T (within (start_def days shares counts default) s_min_def init_s_max_def)
   unfolding start_def

@@ -1,5 +1,5 @@
 -- How an entry that has its refusal's number goes on: refused, or accepted with 21 weights. Assumes nothing.
-use Rattle.std.proofs.Common.{◌≡◌, ℕ, suc, Bool, true, false, cond, eqb, List, length, sym, refl, ◌∙◌, arith, eq-eqb, ne_eqb, eqb-true}
+use Rattle.std.proofs.Common.{◌≡◌, ℕ, zero, suc, Bool, true, false, cond, eqb, List, length, sym, refl, ◌∙◌, suc-ne-zero, arith, eq-eqb, ne_eqb, eqb-true}
 use lib.Ieee.{Float}
 use Rattle.domain.proofs.weights.Accepted.{accepted_length}
 use Rattle.domain.proofs.weights.Copy.{copy_whole}
@@ -26,15 +26,29 @@ none_bad z m a true e h = refl
 none_bad z m true false e h = absurd (omega (arith, h))
 none_bad z m false false e h = e ∙ eq-eqb _ 0 h
 
+-- no refusal, with a number m of the weights: by cases, so that it rests on no order of the numbers
+good_of : (w : List Float) (m : ℕ) (good : Bool) → m ≡ weights_refusal_def w → scalar_refusal_def w good ≡ 0 → good ≡ true
+unfolding scalar_refusal_def
+good_of w m true e h = refl
+good_of w zero false e h = absurd (omega (arith, rw (← e) at h))
+good_of w (suc m) false e h = absurd (omega (arith, rw (← e, ne_eqb (suc m) 0 (suc-ne-zero m)) at h))
+
+weights_of : (w : List Float) (m : ℕ) (good : Bool) → m ≡ weights_refusal_def w → scalar_refusal_def w good ≡ 0 → m ≡ 0
+unfolding scalar_refusal_def
+weights_of w zero good e h = refl
+weights_of w (suc m) true e h = absurd (omega (arith, rw (← e, ne_eqb (suc m) 0 (suc-ne-zero m)) at h))
+weights_of w (suc m) false e h = absurd (omega (arith, rw (← e, ne_eqb (suc m) 0 (suc-ne-zero m)) at h))
+
+pub answers_weights : (w : List Float) (good : Bool) → scalar_refusal_def w good ≡ 0 → weights_refusal_def w ≡ 0
+answers_weights w good h = weights_of w (weights_refusal_def w) good refl h
+
 -- the arguments are good
 pub answers_good : (w : List Float) (good : Bool) (n : ℕ) → n ≡ scalar_refusal_def w good → n ≡ 0 → good ≡ true
-unfolding scalar_refusal_def
-answers_good w good n e h = none_bad 12 (weights_refusal_def w) _ good refl (sym e ∙ h)
+answers_good w good n e h = good_of w (weights_refusal_def w) good refl (sym e ∙ h)
 
 -- the weights were accepted
 pub answers_length : (w : List Float) (good : Bool) (n : ℕ) → n ≡ scalar_refusal_def w good → n ≡ 0 → length w ≡ 21
-unfolding scalar_refusal_def
-answers_length w good n e h = accepted_length w (none_before 12 (weights_refusal_def w) _ good refl (sym e ∙ h))
+answers_length w good n e h = accepted_length w (answers_weights w good (sym e ∙ h))
 
 -- so the copy is the weights themselves
 pub answers_copied : (w v : List Float) (good : Bool) (n : ℕ) → n ≡ scalar_refusal_def w good → n ≡ 0 → v ≡ copy_def w → v ≡ w

@@ -7,7 +7,7 @@ use lib.Ieee.Scale.{finite}
 use borrow.Author.Tests.{eqb-false}
 use Rattle.soft.proofs.units.Value.{holds}
 use Rattle.domain.specs.Limits.{day_good_def}
-use Rattle.domain.specs.Weights.{copy_def, weights_refusal_def}
+use Rattle.domain.specs.Weights.{copy_def}
 use Rattle.model_v6.specs.Answers.{finite_memory, scalar_refusal_def, refused, accepted, scalar_def, state_def, next_state_scalar_def, interval_scalar}
 use Rattle.model_v6.specs.Curve.{interval_def}
 use Rattle.model_v6.specs.NextState.{next_state_def}
@@ -16,7 +16,7 @@ use Rattle.model_v6.specs.declared.rows.Claimed.{Claimed}
 use Rattle.model_v6.specs.declared.rows.RowCheck.TheVariants.{Refused, Accepted}
 use Rattle.model_v6.specs.declared.state.MemoryState.{MemoryState}
 use Rattle.model_v6.proofs.rows.Picked.{picked, same_stability, same_difficulty, same_interval}
-use Rattle.model_v6.proofs.answers.Answering.{none_before, answers_good, answers_copied}
+use Rattle.model_v6.proofs.answers.Answering.{answers_weights, answers_good, answers_copied}
 
 -- ---- by the three comparisons
 all_agree : (a b c : Bool) → verdict_of_def (picked a b c) ≡ 0 → (a ≡ true) × (b ≡ true) × (c ≡ true)
@@ -129,7 +129,7 @@ both_true false b s t = absurd s
 
 pub unrefused : (w : List Float) (a b : Bool) → scalar_refusal_def w a ≡ 0 → b ≡ true → scalar_refusal_def w b ≡ 0
 unfolding scalar_refusal_def
-unrefused w a b h k = rw (none_before 12 (weights_refusal_def w) _ a refl h, k)
+unrefused w a b h k = rw (answers_weights w a h, k)
 
 module _ (w : List Float) (state : MemoryState) (day : Float) (rating : ℕ) (retention : Float) where
   abbrev after : MemoryState

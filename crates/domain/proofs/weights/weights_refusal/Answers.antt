@@ -1,9 +1,8 @@
-use Rattle.std.proofs.Common.{◌≡◌, ℕ, ◌<◌, false, List, length, arith, rules, eq-eqb, ne_eqb}
+use Rattle.std.proofs.Common.{◌≡◌, ℕ, ◌<◌, true, false, List, length, arith, rules, eq-eqb, ne_eqb}
 use lib.Ieee.{Float, le}
 use Rattle.domain.specs.Weights.{low_def, high_def, ◌!◌, in_box, weights_refusal_def}
 use Rattle.domain.proofs.weights.All.{none, more, miss, both, not_left, not_right}
 use Rattle.domain.proofs.weights.Tables.{low, high}
-use Rattle.domain.proofs.weights.weights_refusal.Goals.{else-i-x-via-then-i-x+else-x-i, else-i-x-via-else-i-x}
 use Rattle.domain.proofs.weights.weights_refusal.Goals as goal
 
 refuse : (ws : List Float) → length ws ≡ 21 → (k : ℕ) → k < 21 → in_box k (ws ! k) ≡ false → 2 ≡ weights_refusal_def ws
@@ -23,12 +22,14 @@ returns-then-w-ne21 c = rw (ne_eqb _ 21 c.if-w-ne21.true)
 pub loop-i-init : goal.loop-i-init
 loop-i-init c = (search rules, search rules, none _ _)
 
+-- the two tests are searched for, and not named: `in_box` asks for both
 pub loop-i-preserved : goal.loop-i-preserved
-loop-i-preserved c = (
-  search rules,
-  search rules,
-  more in_box _ _ c.loop-i.invariant.2 (rw (low, high) (both _ _ c.if-i-x.true c.if-x-i.true)),
-)
+loop-i-preserved c =
+    let k = c.loop-i.i in
+    let ws = c.args.w.now in
+    let least : le (low_def ! k) (ws ! k) ≡ true = rw low (search rules) in
+    let most : le (ws ! k) (high_def ! k) ≡ true = rw high (search rules) in
+    (search rules, search rules, more in_box k ws c.loop-i.invariant.2 (both _ _ least most))
 
 pub returns-else-i-x : goal.returns-else-i-x
 returns-else-i-x c =
@@ -36,8 +37,8 @@ returns-else-i-x c =
     let ws = c.args.w.now in
     let h = c.loop-i-test.true in
     elim c.else-i-x.branch [
-      | else-i-x-via-then-i-x+else-x-i w ↦ refuse ws l.invariant.1 l.i h (above _ _ (rw high w.if-x-i.false))
-      | else-i-x-via-else-i-x w ↦ refuse ws l.invariant.1 l.i h (under _ _ (rw low w.if-i-x.false))
+      | goal.else-i-x-via-then-i-x+else-x-i w ↦ refuse ws l.invariant.1 l.i h (above _ _ (rw high w.if-x-i.false))
+      | goal.else-i-x-via-else-i-x w ↦ refuse ws l.invariant.1 l.i h (under _ _ (rw low w.if-i-x.false))
     ]
 
 pub returns : goal.returns

@@ -26,7 +26,7 @@ raw c is =
     c.memory_state_from_sm2-raw.ensures ∙
     rw (answers_copied _ _ _ _ is c.if-n-ne0.false c.copy_weights-v.ensures)
 
--- the second test
+-- the second test, by what each call says, whichever are called
 tested :
     (c : goal.After-is_finite_state) →
     (let a = c.args in
@@ -35,7 +35,7 @@ tested :
     cond c.is_finite_state.result (accepted_state (sm2_held c.memory_state_from_sm2-raw.result)) (refused_state_def 14)
     ≡ sm2_scalar a.w.now a.ease_factor a.interval a.sm2_retention)
 tested c is made =
-    rw made (sm2_tested _ _ _ _ _ is c.if-n-ne0.false _ (c.is_finite_state.ensures ∙ rw made))
+    rw made (sm2_tested _ _ _ _ _ is c.if-n-ne0.false _ (cc))
 
 pub returns-then-n-ne0 : goal.returns-then-n-ne0
 returns-then-n-ne0 c = c.refused_state.ensures ∙ sm2_refused _ _ _ _ _ (number (goal.at.returns-then-n-ne0 c).After-scalar_refusal-n) c.if-n-ne0.true
