@@ -2,7 +2,7 @@
 """Writes docs/CHECK-TIMES.md from what the gate printed: tools/check_times.py LOG SECONDS [WHY], where LOG is the output of .ci/run, each
 line behind the second at which it came, SECONDS what the whole of it took, and WHY, if it grew much, says why. In bash:
 
-    .ci/run | while IFS= read -r line; do echo "$SECONDS $line"; done >LOG"""
+    set -o pipefail; SECONDS=0; .ci/run | while IFS= read -r line; do echo "$SECONDS $line"; done >LOG"""
 import datetime
 import os
 import platform

@@ -1,4 +1,4 @@
-# Sourced by ./batchgrad, ./run and ./lib, which set `root` to the repository's folder: calls rt where that is needed, and one
+# Sourced by ./batchgrad, ./run, ./lib and .ci/run, which set `root` to the repository's folder: calls rt where that is needed, and one
 # run at a time.
 #
 #   find_kit                      sets `kit` to the kit's folder and `tools` to its compiler, linker and C library

@@ -1,5 +1,6 @@
-// The C functions of include/fsrs6.h, in its order. Each is one call of the entry that proves it; its answers are written where
-// the call was accepted, and the refusal's number is returned. Those that say why (`why`) return their whole answer.
+// What C calls by way of `fsrs6_c`: the functions of include/fsrs6.h, in its order. Each is one call of the entry that proves it; its
+// answers are written where the call was accepted, and the refusal's number is returned. Those that say why (`why`) return their
+// whole answer.
 #![tactic(auto)]
 
 pub mod arithmetic;
