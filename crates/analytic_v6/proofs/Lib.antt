@@ -1,4 +1,6 @@
 -- Laws of the definitions.
-pub mod Answer
+pub mod Calls
 pub mod Entry
 pub mod Laws
+pub mod Left
+pub mod Results

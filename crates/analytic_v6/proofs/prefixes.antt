@@ -1,4 +1,3 @@
 pub mod Columns
 pub mod Entry
 pub mod Over
-pub mod Whole

@@ -2,7 +2,7 @@
 use Rattle.std.specs.Prelude.{ℕ, cond, List, eqb, Float}
 use Rattle.domain.specs.Doubles.{zero64}
 use Rattle.checks.specs.Columns.{through}
-use Rattle.analytic_v6.specs.declared.answers.Loss.{Loss}
+use Rattle.analytic_v6.specs.Results.{Loss}
 
 -- 'A refusal gives +0.0 in every number of its answer'
 unfoldable pub answer : (refusal : ℕ) (loss : Float) → Loss

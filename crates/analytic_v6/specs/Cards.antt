@@ -8,13 +8,14 @@ use Rattle.forward.specs.declared.state.StepRecord.{StepRecord}
 use Rattle.checks.specs.Batch.{Cards, length_at, history, label_at, weight_at_def}
 use Rattle.checks.specs.Columns.{total}
 use Rattle.checks.specs.Refusals.{card_loss_refusal_def, card_grad_refusal_def}
+use Rattle.columns.specs.Layouts.{left_by}
 use Rattle.columns.specs.Records.{room_def}
 use Rattle.columns.specs.StepRecords.{steps_def}
 use Rattle.columns.specs.BackwardPass.{start_grad, back_def}
 use Rattle.columns.specs.LastReview.{last_loss_def, last_grad, last_slots}
 use Rattle.columns.specs.ForwardPass.{state_at, record_at, stored_def, score_at_def, loss_at, grads_def}
 use Rattle.analytic_v6.specs.Answers.{answer, leaves}
-use Rattle.analytic_v6.specs.declared.answers.Loss.{Loss}
+use Rattle.analytic_v6.specs.Results.{Loss}
 
 -- card_column_loss_and_grad, for one column
 module _ (p : RuntimeParams) (x : Cards) (column : ℕ) where
@@ -59,6 +60,10 @@ module _ (p : RuntimeParams) (x : Cards) (column : ℕ) where
   unfoldable pub card_records_def : (records : List Float) → List Float
   card_records_def records = stored_def p (history x.table column) last_row records
 
+  -- in any layout
+  abbrev pub card_left : {A : Type 0} (store : List A → ℕ → StepRecord → List A) (records : List A) → List A
+  card_left store records = left_by store p (history x.table column) last_row records
+
   -- 'its last row 0'
   unfoldable pub card_grads_def : (step_grads : List Float) → List Float
   card_grads_def step_grads =
@@ -87,18 +92,23 @@ unfoldable pub cards_records : (w : List Float) (x : Cards) (gw : ℕ) (records 
 cards_records w x gw records step_grads =
     leaves (card_grad_refusal_def w x gw (room_def (length records)) step_grads) (card_records_def (params_def w) x) x.table.columns records
 
+-- in any layout: cards_steps and cards_records where it is that of step records and that of columns (proofs/Left.antt)
+unfoldable pub cards_left : {A : Type 0} (room : ℕ → ℕ) (store : List A → ℕ → StepRecord → List A) (w : List Float) (x : Cards) (gw : ℕ) (records : List A) (step_grads : ℕ) → List A
+cards_left room store w x gw records step_grads =
+    leaves (card_grad_refusal_def w x gw (room (length records)) step_grads) (λ column. card_left (params_def w) x column store) x.table.columns records
+
 unfoldable pub cards_grads : (w : List Float) (x : Cards) (gw room : ℕ) (step_grads : List Float) → List Float
 cards_grads w x gw room step_grads =
     leaves (card_grad_refusal_def w x gw room (length step_grads)) (card_grads_def (params_def w) x) x.table.columns step_grads
 
--- what card_loss_and_grad leaves in what it was lent
+-- what card_loss_and_grad leaves in what it was lent, over step records
 abbrev pub CardsLeave : (w : List Float) (x : Cards) (gw : List Float) (records : List StepRecord) (step_grads gw-exit : List Float) (records-exit : List StepRecord) (step-grads-exit : List Float) → Type 0
 CardsLeave w x gw records step_grads gw-exit records-exit step-grads-exit =
     (gw-exit ≡ cards_slots w x gw (length records) (length step_grads)) ×
     (records-exit ≡ cards_steps w x (length gw) records (length step_grads)) ×
     (step-grads-exit ≡ cards_grads w x (length gw) (length records) step_grads)
 
--- and card_loss_and_grad_columns
+-- and over columns of singles
 abbrev pub CardsColumnsLeave : (w : List Float) (x : Cards) (gw records step_grads gw-exit records-exit step-grads-exit : List Float) → Type 0
 CardsColumnsLeave w x gw records step_grads gw-exit records-exit step-grads-exit =
     (gw-exit ≡ cards_slots w x gw (room_def (length records)) (length step_grads)) ×

@@ -9,13 +9,14 @@ use Rattle.forward.specs.declared.state.StepRecord.{StepRecord}
 use Rattle.checks.specs.Batch.{Prefixes, length_at, history, target_weight_at}
 use Rattle.checks.specs.Columns.{total}
 use Rattle.checks.specs.Refusals.{prefix_loss_refusal_def, prefix_grad_refusal_def}
+use Rattle.columns.specs.Layouts.{left_by}
 use Rattle.columns.specs.Records.{room_def}
 use Rattle.columns.specs.StepRecords.{steps_def}
 use Rattle.columns.specs.BackwardPass.{start_grad, back_def}
 use Rattle.columns.specs.LastReview.{target_loss_def, target_grad, target_slots}
 use Rattle.columns.specs.ForwardPass.{state_at, record_at, stored_def}
 use Rattle.analytic_v6.specs.Answers.{answer, leaves}
-use Rattle.analytic_v6.specs.declared.answers.Loss.{Loss}
+use Rattle.analytic_v6.specs.Results.{Loss}
 
 -- prefix_loss_and_grad, for one column
 module _ (p : RuntimeParams) (x : Prefixes) (column : ℕ) where
@@ -40,6 +41,10 @@ module _ (p : RuntimeParams) (x : Prefixes) (column : ℕ) where
   unfoldable pub prefix_records_def : (records : List Float) → List Float
   prefix_records_def records = stored_def p (history x.table column) (length_at x.table column) records
 
+  -- and in any layout
+  abbrev pub prefix_left : {A : Type 0} (store : List A → ℕ → StepRecord → List A) (records : List A) → List A
+  prefix_left store records = left_by store p (history x.table column) (length_at x.table column) records
+
 -- 'column losses add in column order in double'
 abbrev pub prefixes_total : (w : List Float) (x : Prefixes) → Float
 prefixes_total w x = total (prefix_loss_def (params_def w) x) x.table.columns
@@ -61,12 +66,17 @@ unfoldable pub batch_records : (w : List Float) (x : Prefixes) (gw : ℕ) (recor
 batch_records w x gw records =
     leaves (prefix_grad_refusal_def w x gw (room_def (length records))) (prefix_records_def (params_def w) x) x.table.columns records
 
--- what batch_loss_and_grad leaves in what it was lent
+-- in any layout: batch_steps and batch_records where it is that of step records and that of columns (proofs/Left.antt)
+unfoldable pub batch_left : {A : Type 0} (room : ℕ → ℕ) (store : List A → ℕ → StepRecord → List A) (w : List Float) (x : Prefixes) (gw : ℕ) (records : List A) → List A
+batch_left room store w x gw records =
+    leaves (prefix_grad_refusal_def w x gw (room (length records))) (λ column. prefix_left (params_def w) x column store) x.table.columns records
+
+-- what batch_loss_and_grad leaves in what it was lent, over step records
 abbrev pub BatchLeaves : (w : List Float) (x : Prefixes) (gw : List Float) (records : List StepRecord) (gw-exit : List Float) (records-exit : List StepRecord) → Type 0
 BatchLeaves w x gw records gw-exit records-exit =
     (gw-exit ≡ batch_slots w x gw (length records)) × (records-exit ≡ batch_steps w x (length gw) records)
 
--- and batch_loss_and_grad_columns
+-- and over columns of singles
 abbrev pub BatchColumnsLeave : (w : List Float) (x : Prefixes) (gw records gw-exit records-exit : List Float) → Type 0
 BatchColumnsLeave w x gw records gw-exit records-exit =
     (gw-exit ≡ batch_slots w x gw (room_def (length records))) × (records-exit ≡ batch_records w x (length gw) records)

@@ -13,8 +13,7 @@ use Rattle.forward.specs.declared.state.State.{State}
 use Rattle.forward.specs.declared.state.Stepped.{Stepped}
 use Rattle.backward.specs.Step.{step_grad, step_moved}
 use Rattle.columns.specs.StepRecords.{no_step_def}
-use Rattle.analytic_v6.specs.declared.step.TrainingStep.{TrainingStep}
-use Rattle.analytic_v6.specs.declared.step.TrainingReverse.{TrainingReverse}
+use Rattle.analytic_v6.specs.Results.{TrainingStep, TrainingReverse}
 
 -- 'its day goes unread in padding and in a first step'
 abbrev pub is_unread_def : (rating : Float) (row : ℕ) (s : Float) → Bool

@@ -1,3 +1,2 @@
--- Definitions that only the contracts of private functions cite; no reader of the public contract needs them.
-pub mod Rows
+-- Definitions that only the laws of proofs/ cite; no reader of the public contract needs them.
 pub mod Over

@@ -1,4 +1,4 @@
-// The prefix loss: with its gradient, over step records and over columns of singles, and alone.
+//! The prefix loss: alone, and with its gradient.
+
 pub mod grad;
-pub mod grad_columns;
 pub mod loss;

@@ -1,123 +1,91 @@
-// One training step, and its reverse.
-ghost use Rattle.std.specs.Prelude.{◌≡◌, true, length};
-ghost use Rattle.analytic_v6.specs.Step.{is_unread_def, finite_state, step_refusal_def, training_step_def, training_reverse, reverse_slots_def};
+//! One training step, and its reverse.
+ghost use Rattle.std.specs.Prelude.{◌≡◌, true, length, IfOk};
+ghost use Rattle.domain.specs.Refusals.{number_of};
+ghost use Rattle.analytic_v6.specs.Results.{reverse_answered, step_answered};
+ghost use Rattle.analytic_v6.specs.Step.{step_refusal_def, training_step_def, training_reverse, reverse_slots_def};
 
 use backward::step::{StateGrad, step_backward};
 use checks::reads::is_rating;
-use columns::step_records::no_step;
-use domain::floats::is_finite;
 use domain::limits::is_day;
-use domain::weights::{copy_weights, weights_refusal};
-use forward::parameters::runtime_params;
-use forward::state::{State, StepRecord};
+use domain::refusal::Refusal;
+use domain::weights::Weights;
+use forward::parameters::RuntimeParams;
+use forward::state::{State, Stepped};
 use forward::step::{is_first, step_forward};
-use soft::flags::either;
 
-// The number of a refusal, 0 where there is none; the state after the step and its record, all +0.0 where there is one.
-#[derive(Clone, Copy)]
-pub struct TrainingStep {
-    pub refusal: u32,
-    pub state: State,
-    pub step: StepRecord,
+/// The gradients by what a step gives: the state after it, and its retrievability where that is scored.
+#[derive(Clone, Copy, Debug, PartialEq)]
+pub struct OutputGrad {
+    pub state: StateGrad,
+    pub retrievability: f64,
 }
 
-// The number of a refusal, and the gradient by the state before the step, +0.0 where there is one.
-#[derive(Clone, Copy)]
-pub struct TrainingReverse {
-    pub refusal: u32,
-    pub grad: StateGrad,
-}
-
-// The day goes unread in padding and in a first step.
-fn is_unread(rating: f32, row: usize, s: f32) -> bool
-    ensures { result ≡ is_unread_def rating row s }
-{
-    either(rating == 0.0, is_first(row, s))
-}
-
-fn is_finite_state(q: State) -> bool
-    ensures { result ≡ finite_state q }
-{
-    if !is_finite(q.s) {
-        return false;
-    }
-    is_finite(q.d)
-}
-
-// The order is 1, 2, 5, 13, 6, 7.
-fn step_refusal(w: &[f32], slots: bool, q: State, day: f32, rating: f32, row: usize) -> u32
-    ensures { result ≡ step_refusal_def w.now slots q day rating row }
-{
-    let n = weights_refusal(w);
-    if n != 0 {
-        return n;
-    }
-    if !slots {
-        return 5;
-    }
-    if !is_finite_state(q) {
-        return 13;
-    }
-    if !is_rating(rating) {
-        return 6;
-    }
-    if !either(is_unread(rating, row, q.s), is_day(day)) {
-        return 7;
-    }
-    0
-}
-
-// A review of the state `q` on `day` days after the last one, at the `row`-th row of its history.
-pub fn training_step(w: &[f32], q: State, day: f32, rating: f32, row: usize) -> TrainingStep
-    ensures { result ≡ training_step_def w.now q day rating row }
-{
-    let n = step_refusal(w, true, q, day, rating, row);
-    if n != 0 {
-        let state = State { s: 0.0, d: 0.0 };
-        let step = no_step();
-        return TrainingStep {
-            refusal: n,
-            state,
-            step,
-        };
-    }
-    let v = copy_weights(w);
-    let p = runtime_params(&v);
-    let t = step_forward(p, q, day, rating, row);
-    let state = t.state;
-    let step = t.step;
-    TrainingStep {
-        refusal: 0,
-        state,
-        step,
-    }
-}
-
-// The reverse of that step: g_s and g_d are the gradients by the state after it, g_r that by its retrievability. The
-// slots are added to, and none where the call is refused.
-pub fn training_step_backward(
+// Stays: no plainer: state, day, rating and row are told one by one, as the Rust's `step_forward` and `fsrs_training_step` take them.
+// The weights, the slots, the state, the rating, the day, which goes unread in padding and in a first step.
+#[tactic(auto, using(crate::proofs::Entry::step_tests))]
+fn check_step(
     w: &[f32],
-    q: State,
+    slots: bool,
+    state: State,
     day: f32,
     rating: f32,
     row: usize,
-    g_s: f64,
-    g_d: f64,
-    g_r: f64,
-    gw: &mut [f64],
-) -> TrainingReverse
-    ensures { (result ≡ training_reverse w.now q day rating row g_s g_d g_r (length gw.old)) ×
-        (gw.new ≡ reverse_slots_def w.now q day rating row g_s g_d g_r gw.old) }
+) -> Result<Weights, Refusal>
+    ensures refusal { number_of result ≡ step_refusal_def w.now slots state day rating row }
+    ensures weights { IfOk result (λ v. v.values ≡ w.now) }
 {
-    let n = step_refusal(w, gw.len() == 21, q, day, rating, row);
-    if n != 0 {
-        let grad = StateGrad { s: 0.0, d: 0.0 };
-        return TrainingReverse { refusal: n, grad };
+    let w = Weights::try_from(w)?;
+    if !slots {
+        return Err(Refusal::SlotCount);
     }
-    let v = copy_weights(w);
-    let p = runtime_params(&v);
-    let t = step_forward(p, q, day, rating, row);
-    let step = t.step;
-    let grad = step_backward(p, step, g_s, g_d, g_r, gw);
-    TrainingReverse { refusal: 0, grad }
+    if !(state.s.is_finite() & state.d.is_finite()) {
+        return Err(Refusal::Argument);
+    }
+    if !is_rating(rating) {
+        return Err(Refusal::Rating);
+    }
+    if !((rating == 0.0) | is_first(row, state.s) | is_day(day)) {
+        return Err(Refusal::Day);
+    }
+    Ok(w)
+}
+
+/// `step_forward`: a review of `state` on `day` days after the last one, at the `row`-th row of its history. The state after it,
+/// and the step's record. Refused, in this order, for its weights, a state that is not finite, its rating, and its day where
+/// that is read.
+#[tactic(auto, using(crate::proofs::Entry::step_entry))]
+pub fn training_step(
+    w: &[f32],
+    state: State,
+    day: f32,
+    rating: f32,
+    row: usize,
+) -> Result<Stepped, Refusal>
+    ensures { step_answered result ≡ training_step_def w.now state day rating row }
+{
+    let w = check_step(w, true, state, day, rating, row)?;
+    let p = RuntimeParams::new(&w.values);
+    Ok(step_forward(&p, state, day, rating, row))
+}
+
+/// `step_backward`, the reverse of that step: from the gradients `g` by what it gave to those by the state before it. The 21
+/// slots are added to. Refused as the step is, after the weights for another number of slots, and a refused call leaves
+/// them as they are.
+#[tactic(auto, using(crate::proofs::Entry::reverse_entry))]
+pub fn training_step_backward(
+    w: &[f32],
+    state: State,
+    day: f32,
+    rating: f32,
+    row: usize,
+    g: OutputGrad,
+    gw: &mut [f64],
+) -> Result<StateGrad, Refusal>
+    ensures grad { reverse_answered result ≡ training_reverse w.now state day rating row g.state.s g.state.d g.retrievability (length gw.old) }
+    ensures slots { gw.new ≡ reverse_slots_def w.now state day rating row g.state.s g.state.d g.retrievability gw.old }
+{
+    let w = check_step(w, gw.len() == 21, state, day, rating, row)?;
+    let p = RuntimeParams::new(&w.values);
+    let step = step_forward(&p, state, day, rating, row).step;
+    Ok(step_backward(&p, &step, g.state.s, g.state.d, g.retrievability, gw))
 }

@@ -24,6 +24,7 @@ use Rattle.backward.specs.declared.difficulty.DifficultyParts.{DifficultyParts}
 use Rattle.backward.specs.declared.failure.LapseParts.{LapseParts}
 use Rattle.backward.specs.declared.success.SuccessParts.{SuccessParts}
 
+-- Stays: std has this one and the next as the halves of one lemma, or_parts; each use by that name is no plainer.
 pub or_left : (a b : Bool) → a || b ≡ false → a ≡ false
 or_left false b e = refl
 or_left true b e = e

@@ -1,4 +1,3 @@
 -- Laws of the definitions.
-pub mod Flow
 pub mod Keeps
 pub mod Same

@@ -7,4 +7,3 @@ pub mod Short
 pub mod Slots
 pub mod Step
 pub mod Success
-pub mod inner

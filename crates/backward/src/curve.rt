@@ -1,14 +1,14 @@
 // The forgetting curve's reverse.
 ghost use Rattle.std.specs.Prelude.{◌≡◌};
-ghost use Rattle.backward.specs.Curve.{widened_def, curve_grad_def, curve_slot_def, curve_back, curve_slots};
+ghost use Rattle.backward.specs.Curve.{curve_back, curve_slots};
 
 use crate::slots::add;
 use forward::curve::CurveCache;
-use kernels::ln::ln_f64;
-use std::num::f32_to_f64_with_nan;
+use forward::parameters::RuntimeParams;
+use kernels::ln::ln;
 
-// The cached curve in doubles.
-#[derive(Clone, Copy)]
+/// The cached curve in doubles.
+#[derive(Clone, Copy, Debug, PartialEq)]
 pub struct WideCurve {
     pub t: f64,
     pub s: f64,
@@ -18,50 +18,58 @@ pub struct WideCurve {
     pub r: f64,
 }
 
-fn widened(c: CurveCache) -> WideCurve
-    ensures { result ≡ widened_def c }
-{
-    let t = f32_to_f64_with_nan(c.t);
-    let s = f32_to_f64_with_nan(c.s);
-    let decay = f32_to_f64_with_nan(c.decay);
-    let factor = f32_to_f64_with_nan(c.factor);
-    let base = f32_to_f64_with_nan(c.base);
-    let r = f32_to_f64_with_nan(c.retrievability);
-    WideCurve {
-        t,
-        s,
-        decay,
-        factor,
-        base,
-        r,
+impl From<CurveCache> for WideCurve {
+    ghost use Rattle.backward.specs.Curve.{widened_def};
+
+    ghost from_gives = { λ c wide. wide ≡ widened_def c };
+
+    #[tactic(auto, unfolding(crate::specs::Curve::widened_def))]
+    fn from(c: CurveCache) -> WideCurve {
+        WideCurve {
+            t: f64::from(c.t),
+            s: f64::from(c.s),
+            decay: f64::from(c.decay),
+            factor: f64::from(c.factor),
+            base: f64::from(c.base),
+            r: f64::from(c.retrievability),
+        }
     }
 }
 
-// What reaches the stability.
-fn curve_grad(c: WideCurve, g_r: f64) -> f64
-    ensures { result ≡ curve_grad_def c g_r }
-{
-    let db_ds = -c.t * c.factor / (c.s * c.s);
-    g_r * c.r * c.decay / c.base * db_ds
+impl WideCurve {
+    ghost use Rattle.backward.specs.Curve.{curve_grad_def, curve_slot_def};
+
+    // What reaches the stability.
+    #[tactic(auto, unfolding(crate::specs::Curve::curve_grad_def))]
+    fn grad(&self, g_r: f64) -> f64
+        ensures { result ≡ curve_grad_def self.now g_r }
+    {
+        let db_ds = -self.t * self.factor / (self.s * self.s);
+        g_r * self.r * self.decay / self.base * db_ds
+    }
+
+    // What slot 20 gets.
+    #[tactic(auto, unfolding(crate::specs::Curve::curve_slot_def))]
+    fn slot(&self, slope: f64, g_r: f64) -> f64
+        ensures { result ≡ curve_slot_def self.now slope g_r }
+    {
+        let db_ddecay = self.t / self.s * slope;
+        let dr_ddecay = self.r * (ln(self.base) + self.decay / self.base * db_ddecay);
+        -g_r * dr_ddecay
+    }
 }
 
-// What slot 20 gets.
-fn curve_slot(c: WideCurve, slope: f64, g_r: f64) -> f64
-    ensures { result ≡ curve_slot_def c slope g_r }
-{
-    let db_ddecay = c.t / c.s * slope;
-    let dr_ddecay = c.r * (ln_f64(c.base) + c.decay / c.base * db_ddecay);
-    -g_r * dr_ddecay
-}
-
-pub fn curve_backward(slope: f64, cache: CurveCache, g_r: f64, gw: &mut [f64]) -> f64
+/// Goes back through the forgetting curve: `g_r` is the gradient by the retrievability. Slot 20 is added to, and the gradient by
+/// the stability returned. Where `g_r` is 0, no slot is touched.
+#[tactic(auto, unfolding(crate::specs::Curve::curve_back, crate::specs::Curve::curve_slots))]
+pub fn curve_backward(p: &RuntimeParams, cache: CurveCache, g_r: f64, gw: &mut [f64]) -> f64
     ensures { (result ≡ curve_back cache g_r)
-        × (gw.new ≡ curve_slots slope cache g_r gw.old) }
+        × (gw.new ≡ curve_slots p.now.curve_dfactor_ddecay cache g_r gw.old) }
 {
     if g_r == 0.0 {
         return 0.0;
     }
-    let c = widened(cache);
-    add(gw, 20, curve_slot(c, slope, g_r));
-    curve_grad(c, g_r)
+    let c = WideCurve::from(cache);
+    add(gw, 20, c.slot(p.curve_dfactor_ddecay, g_r));
+    c.grad(g_r)
 }

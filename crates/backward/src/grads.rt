@@ -1,21 +1,27 @@
 // The gradients that go back through a review.
 ghost use Rattle.std.specs.Prelude.{◌≡◌};
-ghost use Rattle.backward.specs.Grads.{no_grads_def};
+ghost use Rattle.domain.specs.Doubles.{◌+ᵈ◌};
 
-// Gradients by the stability, the difficulty and the retrievability before the review.
-#[derive(Clone, Copy)]
+use std::ops::Add;
+
+/// Gradients by the stability, the difficulty and the retrievability before the review. The default is three times +0.0: no gradient.
+#[derive(Clone, Copy, Debug, Default, PartialEq)]
 pub struct Grads {
     pub s: f64,
     pub d: f64,
     pub r: f64,
 }
 
-pub fn no_grads() -> Grads
-    ensures { result ≡ no_grads_def }
-{
-    Grads {
-        s: 0.0,
-        d: 0.0,
-        r: 0.0,
+impl Add for Grads {
+    type Output = Grads;
+
+    ghost add_gives = { λ g h sum. sum ≡ record { s = g.s +ᵈ h.s; d = g.d +ᵈ h.d; r = g.r +ᵈ h.r } };
+
+    fn add(self, other: Grads) -> Grads {
+        Grads {
+            s: self.s + other.s,
+            d: self.d + other.d,
+            r: self.r + other.r,
+        }
     }
 }

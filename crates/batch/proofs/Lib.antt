@@ -1,3 +1,2 @@
-pub mod Fits
-pub mod Parts
+pub mod Formed
 pub mod Room

@@ -11,7 +11,7 @@ use Rattle.checks.specs.Tables.{cut_at}
 use Rattle.checks.specs.Sizes.{most, longest_def}
 use Rattle.batch.specs.Words.{word_at_def}
 use Rattle.batch.specs.Header.{well_formed_def, sections_def, sections_of, placed}
-use Rattle.batch.proofs.layout.Sizes.{left_of, rows_small}
+use Rattle.batch.proofs.sections.Sizes.{left_of, rows_small}
 use Rattle.batch.specs.File.{rows_of}
 
 either_of : (a b n : ℕ) (t : Bool) → a ≤ n → b ≤ n → cond t b a ≤ n

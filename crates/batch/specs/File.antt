@@ -1,27 +1,19 @@
 -- Document 01, 'Batch file and program': a file as one call. Assumes nothing.
-use Rattle.std.specs.Prelude.{ℕ, ◌-◌, ◌≤◌, cond, List, eqb, Float, take, drop}
+use Rattle.std.specs.Prelude.{ℕ, Bool, false, ◌-◌, cond, List, eqb, Float, take, drop}
 use Rattle.domain.specs.Doubles.{zero64}
 use Rattle.batch.specs.Words.{words, singles}
-use Rattle.batch.specs.Header.{sections_of, well_formed_def}
-use Rattle.batch.specs.declared.header.Header.{Header}
+use Rattle.batch.specs.Header.{Header, sections_of, well_formed_def}
 use Rattle.checks.specs.Batch.{Prefixes, Cards, prefixes_of, cards_of}
-use Rattle.checks.specs.Faults.{unplaced}
-use Rattle.checks.specs.Refusals.{prefix_grad_fault, card_grad_fault}
-use Rattle.checks.specs.declared.fault.Fault.{Fault}
+use Rattle.checks.specs.Faults.{Fault, unplaced}
+use Rattle.checks.specs.Refusals.{prefix_grad_fault, card_grad_fault, prefix_grad_reads, card_grad_reads}
 use Rattle.analytic_v6.specs.Answers.{answer}
-use Rattle.analytic_v6.specs.declared.answers.Loss.{Loss}
+use Rattle.analytic_v6.specs.Results.{Loss}
 use Rattle.analytic_v6.specs.Prefixes.{batch_loss_and_grad_def, batch_slots}
 use Rattle.analytic_v6.specs.Cards.{cards_loss_and_grad, cards_slots}
 
 -- what stands from the word a up to the word e
 abbrev pub part : (a e : ℕ) (xs : List Float) → List Float
 part a e xs = take (e - a) (drop a xs)
-
--- the sections follow one another within n words
-abbrev pub in_order_def : (h : Header) (n : ℕ) → Type 0
-in_order_def h n =
-    (h.weights ≤ h.days) × (h.days ≤ h.ratings) × (h.ratings ≤ h.lengths) × (h.lengths ≤ h.targets) ×
-    (h.targets ≤ h.labels) × (h.labels ≤ h.reviews) × (h.reviews ≤ h.end) × (h.end ≤ n)
 
 -- the call's own records and step gradients are one for each of 512 rows, the most that a file has
 abbrev pub rows_of : ℕ
@@ -84,6 +76,11 @@ module _ (h : Header) (cells : List Float) (lens : List ℕ) where
   unfoldable pub call_fault_def : Fault
   call_fault_def = cond (eqb h.kind 1) prefix_fault_in card_fault_in
 
+  -- whether it reads its cells: a fault has a place only where it does
+  unfoldable pub call_reads : Bool
+  call_reads =
+      cond (eqb h.kind 1) (prefix_grad_reads weights_in prefixes_in_def 21 rows_of) (card_grad_reads weights_in cards_in_def 21 rows_of rows_of)
+
 module _ (file : List ℕ) where
   -- 'all other entries single bits'
   abbrev pub cells_of : List Float
@@ -102,3 +99,6 @@ module _ (file : List ℕ) where
 
   unfoldable pub file_fault_def : Fault
   file_fault_def = cond (well_formed_def file) (call_fault_def (sections_of file) cells_of lengths_of) (unplaced 11)
+
+  unfoldable pub file_reads : Bool
+  file_reads = cond (well_formed_def file) (call_reads (sections_of file) cells_of lengths_of) false

@@ -1,7 +1,21 @@
 -- Document 01, 'Batch file and program': the header of ten words, and where the sections stand. Positions are in words. Assumes nothing.
 use Rattle.std.specs.Prelude.{ℕ, ◌+◌, ◌*◌, Bool, ◌&&◌, ◌||◌, cond, List, eqb, leb, length}
 use Rattle.batch.specs.Words.{word_at_def}
-use Rattle.batch.specs.declared.header.Header.{Header}
+
+-- a header that is taken apart: 11 and nothing else where the file is malformed
+pub record Header : Type 0 where
+  pub refusal : ℕ
+  pub kind : ℕ
+  pub rows : ℕ
+  pub columns : ℕ
+  pub weights : ℕ
+  pub days : ℕ
+  pub ratings : ℕ
+  pub lengths : ℕ
+  pub targets : ℕ
+  pub labels : ℕ
+  pub reviews : ℕ
+  pub end : ℕ
 
 -- 'kind (1 prefix, 2 card)'
 unfoldable pub is_kind_def : (kind : ℕ) → Bool

@@ -1,3 +1,4 @@
 pub mod File
 pub mod Header
+pub mod Sections
 pub mod Words

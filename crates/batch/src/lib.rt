@@ -1,119 +1,62 @@
-// A batch file, run as the one call that it holds.
+//! A batch file, run as the one call that it holds.
 #![tactic(auto)]
 
+mod call;
 pub mod fault;
-pub mod header;
-mod layout;
-mod steps;
+mod sections;
 mod words;
 
-ghost use Rattle.std.specs.Prelude.{◌≡◌, ◌≤◌, length};
-ghost use Rattle.batch.specs.Words.{words, singles};
-ghost use Rattle.batch.specs.File.{in_order_def, prefix_loss_in, prefix_slots_in};
-ghost use Rattle.batch.specs.File.{card_loss_in_def, card_slots_in, call_loss, call_slots, file_loss, file_slots_def};
+ghost use Rattle.std.specs.Prelude.{◌≡◌, length};
+ghost use Rattle.analytic_v6.specs.Results.{answered};
+ghost use Rattle.batch.specs.File.{call_loss, call_slots, file_loss, file_slots_def};
 
-use crate::header::Header;
-use crate::layout::header_of;
-use crate::steps::{cards_over_steps, prefixes_over_steps};
-use crate::words::{WORDS, fill_singles, fill_words};
-use analytic_v6::answers::Loss;
+use crate::call::{Call, ROWS};
+use crate::sections::{Kind, Sections};
+use crate::words::WORDS;
+use analytic_v6::cards::grad::card_loss_and_grad;
+use analytic_v6::prefixes::grad::batch_loss_and_grad;
+use columns::step_records::{Steps, no_step};
+use domain::refusal::Refusal;
 
-fn run_prefixes(h: Header, cells: &[f32], lens: &[u32], gw: &mut [f64]) -> Loss
-    requires { in_order_def h (length cells.now) }
-    ensures { (result ≡ prefix_loss_in h cells.now lens.now (length gw.old)) ×
-        (gw.new ≡ prefix_slots_in h cells.now lens.now gw.old) }
-{
-    let weights = h.weights;
-    let days = h.days;
-    let ratings = h.ratings;
-    let lengths = h.lengths;
-    let targets = h.targets;
-    let labels = h.labels;
-    let reviews = h.reviews;
-    let end = h.end;
-    prefixes_over_steps(
-        &cells[weights..days],
-        &cells[days..ratings],
-        &cells[ratings..lengths],
-        h.rows,
-        h.columns,
-        lens,
-        &cells[targets..labels],
-        &cells[labels..reviews],
-        &cells[reviews..end],
-        gw,
-    )
-}
+impl Call<'_> {
+    ghost use Rattle.batch.specs.Sections.{header_at};
 
-fn run_cards(h: Header, cells: &[f32], lens: &[u32], gw: &mut [f64]) -> Loss
-    requires { in_order_def h (length cells.now) }
-    ensures { (result ≡ card_loss_in_def h cells.now lens.now (length gw.old)) ×
-        (gw.new ≡ card_slots_in h cells.now lens.now gw.old) }
-{
-    let weights = h.weights;
-    let days = h.days;
-    let ratings = h.ratings;
-    let lengths = h.lengths;
-    let labels = h.labels;
-    let reviews = h.reviews;
-    let end = h.end;
-    cards_over_steps(
-        &cells[weights..days],
-        &cells[days..ratings],
-        &cells[ratings..lengths],
-        h.rows,
-        h.columns,
-        lens,
-        &cells[labels..reviews],
-        &cells[reviews..end],
-        gw,
-    )
-}
-
-// `cells` and `lens` are lent in the size that the file's words and lengths take.
-fn run_call(file: &[u8], h: Header, cells: &mut [f32], lens: &mut [u32], gw: &mut [f64]) -> Loss
-    requires { in_order_def h (length cells.old) }
-    ensures { (result ≡ call_loss h (singles file.now 0 (length cells.old))
-        (words file.now h.lengths (length lens.old)) (length gw.old)) ×
-        (gw.new ≡ call_slots h (singles file.now 0 (length cells.old))
-        (words file.now h.lengths (length lens.old)) gw.old) }
-{
-    fill_singles(file, 0, cells);
-    fill_words(file, h.lengths, lens);
-    if h.kind == 1 {
-        return run_prefixes(h, cells, lens, gw);
+    // The loss, and its gradient, added to the slots.
+    #[tactic(auto, unfolding(crate::specs::File::call_loss, crate::specs::File::call_slots, crate::specs::File::prefix_loss_in, crate::specs::File::prefix_slots_in, crate::specs::File::card_loss_in_def, crate::specs::File::card_slots_in))]
+    fn run(&self, gw: &mut [f64]) -> Result<f64, Refusal>
+        ensures loss { answered result ≡ call_loss (header_at self.now.sections) self.now.cells.now self.now.lengths.now (length gw.old) }
+        ensures slots { gw.new ≡ call_slots (header_at self.now.sections) self.now.cells.now self.now.lengths.now gw.old }
+    {
+        let mut records = [no_step(); ROWS];
+        // Stays: two kinds with an entry each; a trait over their decks would be longer than two arms.
+        match self.sections.kind {
+            Kind::Prefixes => {
+                batch_loss_and_grad::<Steps>(self.weights(), &self.prefixes(), gw, &mut records)
+            }
+            Kind::Cards => {
+                let mut step_grads = [0.0; ROWS];
+                card_loss_and_grad::<Steps>(
+                    self.weights(),
+                    &self.cards(),
+                    gw,
+                    &mut records,
+                    &mut step_grads,
+                )
+            }
+        }
     }
-    run_cards(h, cells, lens, gw)
 }
 
-fn run_sections(file: &[u8], h: Header, cells: &mut [f32], lens: &mut [u32], gw: &mut [f64]) -> Loss
-    requires { (in_order_def h h.end) ×
-        (h.end ≤ length cells.old) ×
-        (h.columns ≤ length lens.old) }
-    ensures { (result ≡ call_loss h (singles file.now 0 h.end) (words file.now h.lengths h.columns)
-        (length gw.old)) ×
-        (gw.new ≡ call_slots h (singles file.now 0 h.end)
-        (words file.now h.lengths h.columns) gw.old) }
+/// The loss of the call that the file holds, and its gradient, added to the 21 slots of `gw`. `Refusal::File` where the file is
+/// malformed; then the refusals of the call. A refused file leaves `gw` as it was.
+#[tactic(auto, using(crate::proofs::Formed::refused_loss))]
+pub fn run_file(file: &[u8], gw: &mut [f64]) -> Result<f64, Refusal>
+    ensures loss { answered result ≡ file_loss file.now (length gw.old) }
+    ensures slots { gw.new ≡ file_slots_def file.now gw.old }
 {
-    let n = h.end;
-    let m = h.columns as usize;
-    run_call(file, h, &mut cells[0..n], &mut lens[0..m], gw)
-}
-
-// The loss of the call that the file holds, and its gradient, added to the 21 slots of gw. Refusal 11 where the file is
-// malformed; then those of the call. A refused file leaves gw as it was.
-pub fn run_file(file: &[u8], gw: &mut [f64]) -> Loss
-    ensures { (result ≡ file_loss file.now (length gw.old)) ×
-        (gw.new ≡ file_slots_def file.now gw.old) }
-{
-    let h = header_of(file);
-    if h.refusal != 0 {
-        return Loss {
-            refusal: 11,
-            loss: 0.0,
-        };
-    }
-    let mut cells = [0.0f32; WORDS];
-    let mut lens = [0u32; WORDS];
-    run_sections(file, h, &mut cells, &mut lens, gw)
+    let sections = Sections::read(file)?;
+    // Stays: no heap (a rule of the project), so the words of the longest file have room here.
+    let mut cells = [0.0; WORDS];
+    let mut lengths = [0; WORDS];
+    Call::read(file, sections, &mut cells, &mut lengths).run(gw)
 }

@@ -1,3 +1,5 @@
+pub mod Chain
 pub mod Longer
+pub mod OneFault
 pub mod Orders
 pub mod Placed

@@ -1,75 +1,41 @@
--- Which refusal comes of the tests, each in its turn. Assumes nothing.
+-- What a call that is accepted has passed, each test in its turn. Assumes nothing.
 use Prim.Native.Nat.{ℕ}
 use mathlib.Core.Bool.{Bool, true, false, cond}
 use mathlib.Core.List.{List}
 use mathlib.Core.Path.{◌≡◌, refl, sym, ◌∙◌, subst}
-use borrow.Author.Tests.{eq-eqb, ne_eqb, eqb-true}
+use borrow.Author.Tests.{eq-eqb, eqb-true}
 use lib.Dec.{T, eqb}
 use lib.Ieee.{Float}
 use Rattle.checks.specs.Reads.{check, first}
 use Rattle.domain.specs.Weights.{weights_refusal_def}
 use Rattle.checks.specs.Refusals.{loss_refusal_def, grad_refusal_def}
 
-first_some : (a b : ℕ) → (a ≡ 0 → ⊥) → first a b ≡ a
-unfolding first
-first_some a b h = rw (ne_eqb a 0 h)
-
 first_none : (a b : ℕ) → a ≡ 0 → first a b ≡ b
 unfolding first
 first_none a b e = rw (eq-eqb a 0 e)
-
-failed : (good : Bool) (n b : ℕ) → good ≡ false → (n ≡ 0 → ⊥) → first (check true good n) b ≡ n
-unfolding check
-failed good n b e h = rw e (first_some n b h)
 
 passed : (good : Bool) (n b : ℕ) → good ≡ true → first (check true good n) b ≡ b
 unfolding check
 passed good n b e = rw e (first_none 0 b refl)
 
-pub three : ◌≡◌ {A = ℕ} 3 0 → ⊥
+three : ◌≡◌ {A = ℕ} 3 0 → ⊥
 three e = subst (λ (n : ℕ). T (eqb n 3)) e tt
 
-pub four : ◌≡◌ {A = ℕ} 4 0 → ⊥
+four : ◌≡◌ {A = ℕ} 4 0 → ⊥
 four e = subst (λ (n : ℕ). T (eqb n 4)) e tt
 
-pub five : ◌≡◌ {A = ℕ} 5 0 → ⊥
+five : ◌≡◌ {A = ℕ} 5 0 → ⊥
 five e = subst (λ (n : ℕ). T (eqb n 5)) e tt
 
-module _ (w : List Float) (n : ℕ) (weights : n ≡ weights_refusal_def w) where
-  pub loss_weights : (sized : Bool) (fault : ℕ) → (n ≡ 0 → ⊥) → n ≡ loss_refusal_def w sized fault
+module _ (w : List Float) (n : ℕ) (weights : n ≡ weights_refusal_def w) (z : n ≡ 0) where
+  pub loss_fault : (sized : Bool) (fault : ℕ) → sized ≡ true → fault ≡ loss_refusal_def w sized fault
   unfolding loss_refusal_def
-  loss_weights sized fault h = rw (← weights) (sym (first_some n _ h))
+  loss_fault sized fault e = rw (← weights) (sym (first_none n _ z ∙ passed sized 3 fault e))
 
-  pub grad_weights : (slots sized room : Bool) (fault : ℕ) → (n ≡ 0 → ⊥) → n ≡ grad_refusal_def w slots sized room fault
-  unfolding grad_refusal_def
-  grad_weights slots sized room fault h = rw (← weights) (sym (first_some n _ h))
-
-  module _ (z : n ≡ 0) where
-    pub loss_sizes : (sized : Bool) (fault : ℕ) → sized ≡ false → 3 ≡ loss_refusal_def w sized fault
-    unfolding loss_refusal_def
-    loss_sizes sized fault e = rw (← weights) (sym (first_none n _ z ∙ failed sized 3 fault e three))
-
-    pub loss_fault : (sized : Bool) (fault : ℕ) → sized ≡ true → fault ≡ loss_refusal_def w sized fault
-    unfolding loss_refusal_def
-    loss_fault sized fault e = rw (← weights) (sym (first_none n _ z ∙ passed sized 3 fault e))
-
-    pub grad_slots : (slots sized room : Bool) (fault : ℕ) → slots ≡ false → 5 ≡ grad_refusal_def w slots sized room fault
+  module _ (slots : Bool) (s : slots ≡ true) (sized : Bool) (t : sized ≡ true) where
+    pub grad_fault : (room : Bool) (fault : ℕ) → room ≡ true → fault ≡ grad_refusal_def w slots sized room fault
     unfolding grad_refusal_def
-    grad_slots slots sized room fault e = rw (← weights) (sym (first_none n _ z ∙ failed slots 5 _ e five))
-
-    module _ (slots : Bool) (s : slots ≡ true) where
-      pub grad_sizes : (sized room : Bool) (fault : ℕ) → sized ≡ false → 3 ≡ grad_refusal_def w slots sized room fault
-      unfolding grad_refusal_def
-      grad_sizes sized room fault e = rw (← weights) (sym (first_none n _ z ∙ passed slots 5 _ s ∙ failed sized 3 _ e three))
-
-      module _ (sized : Bool) (t : sized ≡ true) where
-        pub grad_room : (room : Bool) (fault : ℕ) → room ≡ false → 4 ≡ grad_refusal_def w slots sized room fault
-        unfolding grad_refusal_def
-        grad_room room fault e = rw (← weights) (sym (first_none n _ z ∙ passed slots 5 _ s ∙ passed sized 3 _ t ∙ failed room 4 fault e four))
-
-        pub grad_fault : (room : Bool) (fault : ℕ) → room ≡ true → fault ≡ grad_refusal_def w slots sized room fault
-        unfolding grad_refusal_def
-        grad_fault room fault e = rw (← weights) (sym (first_none n _ z ∙ passed slots 5 _ s ∙ passed sized 3 _ t ∙ passed room 4 fault e))
+    grad_fault room fault e = rw (← weights) (sym (first_none n _ z ∙ passed slots 5 _ s ∙ passed sized 3 _ t ∙ passed room 4 fault e))
 
 -- what an accepted call has passed
 none_first : (a b : ℕ) (t : Bool) → t ≡ eqb a 0 → cond t b a ≡ 0 → (a ≡ 0) × (b ≡ 0)

@@ -2,7 +2,7 @@
 use Prim.Native.Nat.{ℕ}
 use mathlib.Core.Bool.{Bool, true, false, cond}
 use mathlib.Core.List.{List}
-use mathlib.Core.Path.{◌≡◌, refl}
+use mathlib.Core.Path.{◌≡◌, refl, sym, ap, ◌∙◌}
 use borrow.Author.Tests.{ne_eqb}
 use lib.Dec.{eqb}
 use lib.Ieee.{Float}
@@ -12,16 +12,44 @@ use Rattle.checks.specs.Faults.{unplaced, or_else}
 use Rattle.checks.specs.Refusals.{loss_refusal_def, grad_refusal_def}
 use Rattle.checks.specs.Refusals.{prefix_loss_refusal_def, prefix_grad_refusal_def, card_loss_refusal_def, card_grad_refusal_def}
 use Rattle.checks.specs.Refusals.{prefix_loss_fault, prefix_grad_fault, card_loss_fault_def, card_grad_fault}
-use Rattle.checks.specs.declared.fault.Fault.{Fault}
+use Rattle.checks.specs.Faults.{Fault, PlacedWhere, placed, fault_of, refusal_of}
+use Rattle.checks.specs.declared.fault.Fault as found
+use Rattle.checks.specs.declared.fault.Place.{Place}
+use Rattle.domain.proofs.Refusals.{never_0}
+use Rattle.domain.specs.Refusals.{number}
+use Rattle.domain.specs.declared.refusal.Refusal.{Refusal}
+use Rattle.std.specs.Prelude.{Result, Ok, Err, Option, Some, None}
 
 -- m: the call's number if none of its cells are bad
-pub refused : (n m : ℕ) (x f : Fault) → x ≡ unplaced n → n ≡ m → (n ≡ 0 → ⊥) → x ≡ or_else (unplaced m) f
+pub refused : (e : Refusal) (m : ℕ) (f : Fault) → number e ≡ m → record { refusal = number e; column = 0; row = 0 } ≡ or_else (unplaced m) f
 unfolding or_else unplaced
-refused n m x f u e h = rw (← e, ne_eqb n 0 h) u
+refused e m f h = rw (← h, ne_eqb _ 0 (never_0 e))
 
-pub reached : (m : ℕ) (x f : Fault) → x ≡ f → 0 ≡ m → x ≡ or_else (unplaced m) f
+pub reached : (m : ℕ) (x f : Fault) → 0 ≡ m → x ≡ f → x ≡ or_else (unplaced m) f
 unfolding or_else unplaced
-reached m x f u e = rw (← e) u
+reached m x f e u = rw (← e) u
+
+pub told : {A : Type 0} (r : Result A found.Fault) (x : Fault) → fault_of r ≡ x → refusal_of r ≡ x.refusal
+told r x h = told_by r ∙ ap (λ (y : Fault). y.refusal) h
+  where
+    told_at : (n : ℕ) (p : Option Place) → n ≡ (placed n p).refusal
+    told_at n None = refl
+    told_at n (Some p) = refl
+
+    told_by : {A : Type 0} (r : Result A found.Fault) → refusal_of r ≡ (fault_of r).refusal
+    told_by (Ok x) = refl
+    told_by (Err e) = told_at (number e.refusal) e.place
+
+-- no cell is read, or all are
+pub unread : (e : Refusal) (m : ℕ) → number e ≡ m → false ≡ eqb m 0
+unread e m h = rw (← h) (sym (ne_eqb _ 0 (never_0 e)))
+
+pub read : {A : Type 0} (r : Result A found.Fault) (m : ℕ) → 0 ≡ m → PlacedWhere true r → PlacedWhere (eqb m 0) r
+read r m h p = rw (← h) p
+
+pub ruleset places = (unread, read)
+
+pub ruleset tests = (refused, reached, told)
 
 -- ---- its number
 pick_number : (b : Bool) (x y : Fault) → (cond b x y).refusal ≡ cond b x.refusal y.refusal

@@ -1,11 +1,20 @@
 -- The first fault among the cells that a loss call reads, with its place: 'columns ascending: 9, then rows ascending (rating, day,
 -- weight, label), then a prefix target (weight, label, day)'. Assumes nothing.
-use Rattle.std.specs.Prelude.{ℕ, zero, suc, ◌-◌, Bool, cond, List, eqb, Float}
+use Rattle.std.specs.Prelude.{ℕ, zero, suc, ◌-◌, Bool, cond, List, eqb, Float, Result, Ok, Err, Option, Some, None, is_some, ◌≡◌}
+use Rattle.domain.specs.Refusals.{number}
 use Rattle.domain.specs.Weights.{◌!◌}
 use Rattle.checks.specs.Align.{is_end_def}
 use Rattle.checks.specs.Reads.{is_last, prefix_row_def, card_row_def, target_def}
 use Rattle.checks.specs.Batch.{History, Prefixes, Cards, length_at, history, target_weight_at, label_at, weight_at_def}
-use Rattle.checks.specs.declared.fault.Fault.{Fault}
+use Rattle.checks.specs.declared.fault.Fault as found
+use Rattle.checks.specs.declared.fault.Place.{Place}
+
+-- A fault as three numbers, which a C function gives: that of its refusal, 0 where there is none, and its column and row. These are 0
+-- unless the number is 6, 7, 8 or 9; the row is 0 for a 9, and the length for a target.
+pub record Fault : Type 0 where
+  pub refusal : ℕ
+  pub column : ℕ
+  pub row : ℕ
 
 unfoldable pub no_fault_def : Fault
 no_fault_def = record { refusal = 0; column = 0; row = 0 }
@@ -13,6 +22,25 @@ no_fault_def = record { refusal = 0; column = 0; row = 0 }
 -- a refusal that no cell gives
 unfoldable pub unplaced : (n : ℕ) → Fault
 unplaced n = record { refusal = n; column = 0; row = 0 }
+
+-- what a test answers, as three numbers
+abbrev pub placed : (n : ℕ) (place : Option Place) → Fault
+placed n None = record { refusal = n; column = 0; row = 0 }
+placed n (Some p) = record { refusal = n; column = p.column; row = p.row }
+
+abbrev pub fault_of : {A : Type 0} → Result A found.Fault → Fault
+fault_of (Ok x) = record { refusal = 0; column = 0; row = 0 }
+fault_of (Err e) = placed (number e.refusal) e.place
+
+-- its number alone
+abbrev pub refusal_of : {A : Type 0} → Result A found.Fault → ℕ
+refusal_of (Ok x) = 0
+refusal_of (Err e) = number e.refusal
+
+-- a fault has a place exactly where b: which it has is not in the three numbers, where these are 0
+abbrev pub PlacedWhere : {A : Type 0} (b : Bool) → Result A found.Fault → Type 0
+PlacedWhere b (Ok x) = Unit
+PlacedWhere b (Err e) = is_some e.place ≡ b
 
 -- none where the number is 0
 unfoldable pub fault_at_def : (n column row : ℕ) → Fault

@@ -1,6 +1,7 @@
 pub mod Align
 pub mod Batch
 pub mod Columns
+pub mod Decks
 pub mod Faults
 pub mod Reads
 pub mod Refusals

@@ -3,9 +3,8 @@ use Rattle.std.specs.Prelude.{ℕ, Bool, true, ◌&&◌, List, eqb, leb, Float, 
 use Rattle.checks.specs.Reads.{check, first}
 use Rattle.domain.specs.Weights.{weights_refusal_def}
 use Rattle.checks.specs.Batch.{Table, Prefixes, Cards}
-use Rattle.checks.specs.Faults.{unplaced, or_else, prefix_fault_def, card_fault_def}
+use Rattle.checks.specs.Faults.{Fault, unplaced, or_else, prefix_fault_def, card_fault_def}
 use Rattle.checks.specs.Sizes.{longest_def, prefix_sized_def, card_sized_def}
-use Rattle.checks.specs.declared.fault.Fault.{Fault}
 
 -- 'a loss-only entry .. lends no records, step gradients or slots, so it never gives 4 or 5'
 unfoldable pub loss_refusal_def : (w : List Float) (sized : Bool) (fault : ℕ) → ℕ
@@ -43,6 +42,20 @@ card_loss_refusal_def w x = loss_refusal_def w (cards_sized x) (card_fault_def x
 unfoldable pub card_grad_refusal_def : (w : List Float) (x : Cards) (slots records step_grads : ℕ) → ℕ
 card_grad_refusal_def w x slots records step_grads =
     grad_refusal_def w (eqb slots 21) (cards_sized x) (leb (longest_of x.table) records && leb (longest_of x.table) step_grads) (card_fault_def x).refusal
+
+-- whether the call reads its cells: it does where the numbers before the first fault's are all passed
+abbrev pub prefix_loss_reads : (w : List Float) (x : Prefixes) → Bool
+prefix_loss_reads w x = eqb (loss_refusal_def w (prefixes_sized x) 0) 0
+
+abbrev pub prefix_grad_reads : (w : List Float) (x : Prefixes) (slots records : ℕ) → Bool
+prefix_grad_reads w x slots records = eqb (grad_refusal_def w (eqb slots 21) (prefixes_sized x) (leb (longest_of x.table) records) 0) 0
+
+abbrev pub card_loss_reads : (w : List Float) (x : Cards) → Bool
+card_loss_reads w x = eqb (loss_refusal_def w (cards_sized x) 0) 0
+
+abbrev pub card_grad_reads : (w : List Float) (x : Cards) (slots records step_grads : ℕ) → Bool
+card_grad_reads w x slots records step_grads =
+    eqb (grad_refusal_def w (eqb slots 21) (cards_sized x) (leb (longest_of x.table) records && leb (longest_of x.table) step_grads) 0) 0
 
 -- ---- change request K7: the same call's refusal with its place. It 'names the first offending column and row in 01's order' where a cell is what it is
 -- refused for; the numbers 1 to 5, which come before any cell's, have no place

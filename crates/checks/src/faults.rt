@@ -1,4 +1,4 @@
-// The first fault among the cells that a loss call reads, in document 01's order, with its place.
-pub mod card;
-pub mod found;
-pub mod prefix;
+// The first fault among the cells that a loss call reads, with its place: columns ascending, in each an empty prefix first, then
+// the rows ascending, then a prefix's target.
+mod card;
+mod prefix;

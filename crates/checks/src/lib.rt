@@ -3,12 +3,12 @@
 #![tactic(auto)]
 
 pub mod align;
+pub mod deck;
 pub mod fault;
 mod faults;
 // Why a loss call is refused, and where: the twin of each loss entry.
 pub mod places;
 pub mod reads;
-pub mod refusals;
 mod sizes;
 pub mod tables;
 pub mod view;

@@ -1,5 +1,5 @@
 -- What was stored is what is walked back over, where there is room for it. Assumes nothing.
-use Rattle.std.proofs.Common.{◌≡◌, ℕ, zero, suc, ◌<◌, ◌≤◌, Bool, true, false, leb, List, length, get_or, set, sym, refl, ◌∙◌, subst, le_refl, lt_of_lt_of_le, not-suc-le-zero, le_of_lt, ne_of_gt, ne_of_lt, arith, length-set, get_or-set_other, get_or-set_same, leb-false, leb-true}
+use Rattle.std.proofs.Common.{◌≡◌, ℕ, zero, suc, ◌<◌, ◌≤◌, Bool, true, false, leb, List, length, get_or, set, sym, refl, ap, ◌∙◌, subst, le_refl, lt_of_lt_of_le, not-suc-le-zero, le_of_lt, ne_of_gt, ne_of_lt, arith, length-set, get_or-set_other, get_or-set_same, leb-false, leb-true}
 use lib.Ieee.{Float}
 use Rattle.domain.specs.Doubles.{zero64}
 use Rattle.checks.specs.Batch.{History}
@@ -7,41 +7,36 @@ use Rattle.forward.specs.declared.parameters.RuntimeParams.{RuntimeParams}
 use Rattle.forward.specs.declared.state.StepRecord.{StepRecord}
 use Rattle.domain.specs.Weights.{◌!◌}
 use Rattle.columns.specs.Records.{Field, column_of_def, number_of, place, room_def, store_def, load_def}
-use Rattle.columns.proofs.records.ReadBack.{step_read}
-use Rattle.columns.proofs.records.Stored.{stored_length, stored_read, others_kept, kept, field_read}
+use Rattle.columns.specs.StepRecords.{no_step_def, steps_def}
+use Rattle.columns.specs.Layouts.{steps_room, store_steps, load_steps, steps_laws, store_columns, load_columns, columns_laws}
+use Rattle.columns.proofs.Left.{left_length, left_read, left_in_columns, left_in_steps}
+use Rattle.columns.specs.laws.Stored.{kept, field_read}
 use Rattle.backward.specs.declared.step.StateGrad.{StateGrad}
 use Rattle.columns.specs.BackwardPass.{back_def}
-use Rattle.columns.specs.ForwardPass.{step_at, record_at, stored_def, score_at_def, grads_def}
+use Rattle.columns.specs.ForwardPass.{record_at, stored_def, score_at_def, grads_def}
 
 module _ (p : RuntimeParams) (hist : History) where
   pub path_length : (n : ℕ) (xs : List Float) → length (stored_def p hist n xs) ≡ length xs
-  unfolding stored_def
-  path_length zero xs = refl
-  path_length (suc n) xs = stored_length n _ _ ∙ path_length n xs
-
-  record_read : (row : ℕ) (xs : List Float) → row < room_def (length xs) →
-      load_def row (store_def row (record_at p hist row) xs) ≡ record_at p hist row
-  unfolding record_at step_at
-  record_read row xs l = stored_read row _ xs l ∙ step_read p _ _ _ _
+  path_length n xs = ap length (sym (left_in_columns p hist n xs)) ∙ left_length p hist store_columns room_def load_columns columns_laws n xs
 
   room_kept : (n k : ℕ) (xs : List Float) → k < room_def (length xs) → k < room_def (length (stored_def p hist n xs))
   room_kept n k xs h = subst (λ (m : ℕ). k < room_def m) (sym (path_length n xs)) h
 
-  path_turn :
-      (n i : ℕ) (xs : List Float) → n < room_def (length xs) → i < suc n → (i < n → load_def i (stored_def p hist n xs) ≡ record_at p hist i) → (b : Bool) → b ≡ leb n i →
-      load_def i (store_def n (record_at p hist n) (stored_def p hist n xs)) ≡ record_at p hist i
-  path_turn n i xs l h before true e =
-      let same : n ≡ i = omega (arith, leb-true n i (sym e), h) in
-      subst (λ (k : ℕ). load_def k (store_def n (record_at p hist n) (stored_def p hist n xs)) ≡ record_at p hist k) same (record_read n (stored_def p hist n xs) (room_kept n n xs l))
-  path_turn n i xs l h before false e =
-      let less = leb-false n i (sym e) in
-      others_kept n _ (stored_def p hist n xs) (room_kept n n xs l) i (room_kept n i xs (lt_of_lt_of_le less (le_of_lt l))) (ne_of_lt less) ∙ before less
-
   -- row i of the first n rows
   pub path_read : (n i : ℕ) (xs : List Float) → n ≤ room_def (length xs) → i < n → load_def i (stored_def p hist n xs) ≡ record_at p hist i
-  unfolding stored_def
-  path_read zero i xs l h = absurd (not-suc-le-zero h)
-  path_read (suc n) i xs l h = path_turn n i xs l h (path_read n i xs (le_of_lt l)) (leb n i) refl
+  path_read n i xs l h = ap (load_def i) (sym (left_in_columns p hist n xs)) ∙ left_read p hist store_columns room_def load_columns columns_laws n i xs l h
+
+  pub steps_length : (n : ℕ) (xs : List StepRecord) → length (steps_def p hist n xs) ≡ length xs
+  steps_length n xs = ap length (sym (left_in_steps p hist n xs)) ∙ left_length p hist store_steps steps_room load_steps steps_laws n xs
+
+  pub steps_read : (n i : ℕ) (xs : List StepRecord) → n ≤ length xs → i < n → get_or (steps_def p hist n xs) i no_step_def ≡ record_at p hist i
+  steps_read n i xs l h = ap (λ (z : List StepRecord). get_or z i no_step_def) (sym (left_in_steps p hist n xs)) ∙ left_read p hist store_steps steps_room load_steps steps_laws n i xs l h
+
+  -- the rows behind are kept
+  pub steps_kept : (n i : ℕ) (xs : List StepRecord) → n ≤ i → get_or (steps_def p hist n xs) i no_step_def ≡ get_or xs i no_step_def
+  unfolding steps_def
+  steps_kept zero i xs l = refl
+  steps_kept (suc n) i xs l = get_or-set_other (steps_def p hist n xs) n i _ no_step_def (ne_of_gt l) ∙ steps_kept n i xs (le_of_lt l)
 
   -- the same by the field: each number of a stepped row, and that the rows behind keep theirs
   record_field : (row : ℕ) (xs : List Float) → row < room_def (length xs) → (f : Field) → store_def row (record_at p hist row) xs ! place (length xs) (column_of_def f) row ≡ number_of f (record_at p hist row)

@@ -1,3 +1,3 @@
 pub mod Before
 pub mod Kept
-pub mod Turns
+pub mod Left

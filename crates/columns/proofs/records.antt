@@ -1,5 +1,2 @@
-pub mod Apart
-pub mod Cells
-pub mod Place
+pub mod Numbers
 pub mod ReadBack
-pub mod Stored

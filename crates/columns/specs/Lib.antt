@@ -1,7 +1,9 @@
 pub mod BackwardPass
 pub mod ForwardPass
 pub mod LastReview
+pub mod Layouts
 pub mod Records
 pub mod Scores
 pub mod StepRecords
 pub mod inner
+pub mod laws

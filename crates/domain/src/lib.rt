@@ -6,4 +6,5 @@ pub mod defaults;
 pub mod difficulty;
 pub mod floats;
 pub mod limits;
+pub mod refusal;
 pub mod weights;

@@ -1,4 +1,4 @@
 -- Laws of the definitions.
-pub mod Branches
 pub mod Cases
 pub mod Explaining
+pub mod Results

@@ -1,2 +1,3 @@
 pub mod Reasons
+pub mod Results
 pub mod Step

@@ -9,7 +9,7 @@ use Rattle.analytic_v6.specs.Step.{step_refusal_def, stepped}
 use Rattle.explain.specs.Reasons.{reason_of_def, held_at}
 use Rattle.explain.specs.declared.reasons.Held.TheVariants.{Free}
 use Rattle.explain.specs.declared.reasons.Reason.TheVariants.{Padding}
-use Rattle.explain.specs.declared.step.Explained.{Explained}
+use Rattle.explain.specs.Results.{Explained}
 
 unfoldable pub is_padding_def : Branch → Bool
 is_padding_def PaddingBranch = true

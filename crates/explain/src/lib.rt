@@ -1,5 +1,5 @@
-// Why a card moved: the rule that gave a training step its answer, and what its last clamp held. Why a loss call is refused, and
-// for which cell, is told by `checks::places`.
+//! Why a card moved: the rule that gave a training step its answer, and what its last clamp held. Why a loss call is refused, and
+//! for which cell, is told by `checks::places`.
 #![tactic(auto)]
 
 pub mod reasons;

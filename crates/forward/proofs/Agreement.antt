@@ -1,5 +1,6 @@
 -- A step's outcome depends on no weight but those that it reads. Assumes nothing.
 use Rattle.std.proofs.Common.{◌≡◌, ℕ, ◌-◌, Bool, true, false, cond, ◌||◌, eqb, List, [], ◌∷◌, ◌++◌, refl, subst, eq-eqb}
+use Rattle.std.proofs.lemmas.Bool.{or_left, or_right}
 use mathlib.Core.Bool.{or_assoc}
 use lib.Ieee.{Float, neg, eq}
 use Rattle.domain.specs.Limits.{zero32, one, two, four}
@@ -16,13 +17,6 @@ pub by_cases : {A : Type 0} (b : Bool) (x y x' y' : A) → (b ≡ true → x ≡
 by_cases true x y x' y' f g = f refl
 by_cases false x y x' y' f g = g refl
 
-or-true : (a b : Bool) → b ≡ true → a || b ≡ true
-or-true true b e = refl
-or-true false b e = e
-
-or_left : (a b : Bool) → a ≡ true → a || b ≡ true
-or_left a b e = rw e
-
 pub among_append : (k : ℕ) (xs ys : List ℕ) → among k (xs ++ ys) ≡ among k xs || among k ys
 unfolding among
 among_append k [] ys = refl
@@ -33,7 +27,7 @@ module _ (w v : List Float) where
   before xs ys h k e = h k (rw (among_append k xs ys) (or_left _ (among k ys) e))
 
   pub after : (xs ys : List ℕ) → Agree (xs ++ ys) w v → Agree ys w v
-  after xs ys h k e = h k (rw (among_append k xs ys) (or-true (among k xs) _ e))
+  after xs ys h k e = h k (rw (among_append k xs ys) (or_right (among k xs) _ e))
 
   pub yes : (b : Bool) (ks js : List ℕ) → b ≡ true → Agree (cond b ks js) w v → Agree ks w v
   yes b ks js e h = subst (λ (t : Bool). Agree (cond t ks js) w v) e h
@@ -101,8 +95,8 @@ module _ (w v : List Float) where
   same_first q rating h =
       let n = rating_number_def rating - 1 in
       let own : w ! n ≡ v ! n = h n (rw (eq-eqb n n refl)) in
-      let four-th : w ! 4 ≡ v ! 4 = h 4 (or-true (eqb 4 n) true refl) in
-      let five-th : w ! 5 ≡ v ! 5 = h 5 (or-true (eqb 5 n) true refl) in
+      let four-th : w ! 4 ≡ v ! 4 = h 4 (or_right (eqb 4 n) true refl) in
+      let five-th : w ! 5 ≡ v ! 5 = h 5 (or_right (eqb 5 n) true refl) in
       rw (own, four-th, five-th)
 
   -- the law

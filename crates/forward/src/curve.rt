@@ -2,10 +2,12 @@
 ghost use Rattle.std.specs.Prelude.{◌≡◌};
 ghost use Rattle.forward.specs.Curve.{curve_forward_def};
 
+use crate::parameters::RuntimeParams;
 use domain::floats::max;
-use kernels::pow::pow_f32;
+use kernels::pow::pow;
 
-#[derive(Clone, Copy)]
+/// The curve at one day, with what its reverse needs.
+#[derive(Clone, Copy, Debug, PartialEq)]
 pub struct CurveCache {
     pub t: f32,
     pub s: f32,
@@ -15,19 +17,20 @@ pub struct CurveCache {
     pub retrievability: f32,
 }
 
-// A day below 0, or -0.0, counts as +0.0.
-pub fn curve_forward(decay: f32, factor: f32, t: f32, s: f32) -> CurveCache
-    ensures { result ≡ curve_forward_def decay factor t s }
+/// The power forgetting curve, `R(t, s) = (1 + max(t, 0) / s * factor)^decay`.
+/// A day below 0, or -0.0, counts as +0.0.
+#[tactic(auto, unfolding(crate::specs::Curve::curve_forward_def, crate::specs::Curve::base_def))]
+pub fn curve_forward(p: &RuntimeParams, t: f32, s: f32) -> CurveCache
+    ensures { result ≡ curve_forward_def p.now.curve_decay p.now.curve_factor t s }
 {
     let t = max(t, 0.0);
-    let base = t / s * factor + 1.0;
-    let retrievability = pow_f32(base, decay);
+    let base = t / s * p.curve_factor + 1.0;
     CurveCache {
         t,
         s,
-        decay,
-        factor,
+        decay: p.curve_decay,
+        factor: p.curve_factor,
         base,
-        retrievability,
+        retrievability: pow(base, p.curve_decay),
     }
 }

@@ -3,7 +3,6 @@
 
 pub mod curve;
 pub mod parameters;
-// Each function takes the weights that it reads, and no more.
 mod stability;
 pub mod state;
 pub mod step;

@@ -1,101 +1,66 @@
 // How a review moves the stability: on the same day, after a lapse, after a success. Each gives the branch with the
 // numbers that its reverse needs, and the stability before the clamp.
 ghost use Rattle.std.specs.Prelude.{◌≡◌};
-ghost use Rattle.forward.specs.Stability.{short_raw_def, is_floored_def, short_value_def, short_def};
-ghost use Rattle.forward.specs.Stability.{lapse_raw_def, lapse_move_def, lapse_def, success_def};
+ghost use Rattle.domain.specs.Weights.{◌!◌};
+ghost use Rattle.forward.specs.Stability.{short_def, lapse_def, success_def};
 
+use crate::parameters::RuntimeParams;
 use crate::state::{Branch, Move, State};
-use domain::floats::{choose, max};
-use kernels::exp::exp_f32;
-use kernels::pow::pow_f32;
+use domain::floats::max;
+use kernels::exp::exp;
+use kernels::pow::pow;
 
-fn short_raw(w17: f32, w18: f32, w19: f32, s: f32, rating: f32) -> f32
-    ensures { result ≡ short_raw_def w17 w18 w19 s rating }
+#[tactic(auto, unfolding(crate::specs::Stability::short_def, crate::specs::Stability::short_raw_def, crate::specs::Stability::short_value_def, crate::specs::Stability::is_floored_def))]
+pub(crate) fn same_day(p: &RuntimeParams, last: State, rating: f32) -> Move
+    ensures { result ≡ short_def (p.now.w ! 17) (p.now.w ! 18) (p.now.w ! 19) last.s rating }
 {
-    exp_f32(w17 * (rating - 3.0 + w18)) * pow_f32(s, -w19)
-}
-
-// Whether a raw multiplier below 1 became 1. Exactly 1 counts as raw.
-fn is_floored(rating: f32, raw: f32) -> bool
-    ensures { result ≡ is_floored_def rating raw }
-{
-    if rating >= 2.0 { raw < 1.0 } else { false }
-}
-
-// A recalled card does not lose by a review on the same day.
-fn short_value(rating: f32, raw: f32) -> f32
-    ensures { result ≡ short_value_def rating raw }
-{
-    if rating >= 2.0 {
-        return max(raw, 1.0);
-    }
-    raw
-}
-
-pub fn same_day(w17: f32, w18: f32, w19: f32, s: f32, rating: f32) -> Move
-    ensures { result ≡ short_def w17 w18 w19 s rating }
-{
-    let raw = short_raw(w17, w18, w19, s, rating);
-    let value = short_value(rating, raw);
-    let active = !is_floored(rating, raw);
-    let branch = Branch::SameDay { raw, value, active };
+    let raw = exp(p.w[17] * (rating - 3.0 + p.w[18])) * pow(last.s, -p.w[19]);
+    // A recalled card does not lose by a review on the same day. Exactly 1 counts as raw.
+    let value = if rating >= 2.0 { max(raw, 1.0) } else { raw };
+    let active = !(rating >= 2.0 && raw < 1.0);
     Move {
-        s: s * value,
-        branch,
+        s: last.s * value,
+        branch: Branch::SameDay { raw, value, active },
     }
 }
 
-fn lapse_raw(w11: f32, w12: f32, w13: f32, w14: f32, s: f32, d: f32, r: f32) -> f32
-    ensures { result ≡ lapse_raw_def w11 w12 w13 w14 s d r }
+#[tactic(auto, unfolding(crate::specs::Stability::lapse_def, crate::specs::Stability::lapse_raw_def, crate::specs::Stability::lapse_move_def))]
+pub(crate) fn lapse(p: &RuntimeParams, last: State, r: f32) -> Move
+    ensures { result
+        ≡ lapse_def (p.now.w ! 11) (p.now.w ! 12) (p.now.w ! 13) (p.now.w ! 14) p.now.failure_floor_divisor last r }
 {
-    w11 * pow_f32(d, -w12) * (pow_f32(s + 1.0, w13) - 1.0) * exp_f32((1.0 - r) * w14)
-}
-
-// The floor is taken only where it is below the raw value; equality takes the raw value.
-fn lapse_move(raw: f32, floor: f32) -> Move
-    ensures { result ≡ lapse_move_def raw floor }
-{
+    let raw = p.w[11]
+        * pow(last.d, -p.w[12])
+        * (pow(last.s + 1.0, p.w[13]) - 1.0)
+        * exp((1.0 - r) * p.w[14]);
+    let floor = last.s / p.failure_floor_divisor;
+    // The floor is taken only where it is below the raw value; equality takes the raw value.
     let floored = floor < raw;
-    let s = choose(floored, floor, raw);
-    let branch = Branch::Lapse {
-        raw,
-        floor,
-        floored,
-    };
-    Move { s, branch }
+    Move {
+        s: if floored { floor } else { raw },
+        branch: Branch::Lapse {
+            raw,
+            floor,
+            floored,
+        },
+    }
 }
 
-pub fn lapse(w11: f32, w12: f32, w13: f32, w14: f32, divisor: f32, last: State, r: f32) -> Move
-    ensures { result ≡ lapse_def w11 w12 w13 w14 divisor last r }
+#[tactic(auto, unfolding(crate::specs::Stability::success_def))]
+pub(crate) fn success(p: &RuntimeParams, last: State, rating: f32, r: f32) -> Move
+    ensures { result
+        ≡ success_def p.now.exp_w8 (p.now.w ! 9) (p.now.w ! 10) (p.now.w ! 15) (p.now.w ! 16) last rating r }
 {
-    let raw = lapse_raw(w11, w12, w13, w14, last.s, last.d, r);
-    lapse_move(raw, last.s / divisor)
-}
-
-pub fn success(
-    exp_w8: f32,
-    w9: f32,
-    w10: f32,
-    w15: f32,
-    w16: f32,
-    last: State,
-    rating: f32,
-    r: f32,
-) -> Move
-    ensures { result ≡ success_def exp_w8 w9 w10 w15 w16 last rating r }
-{
-    let hard_penalty = choose(rating == 2.0, w15, 1.0);
-    let easy_bonus = choose(rating == 4.0, w16, 1.0);
-    let s = last.s;
-    let success_inc = exp_w8
+    let hard_penalty = if rating == 2.0 { p.w[15] } else { 1.0 };
+    let easy_bonus = if rating == 4.0 { p.w[16] } else { 1.0 };
+    let success_inc = p.exp_w8
         * (11.0 - last.d)
-        * pow_f32(s, -w9)
-        * (exp_f32((1.0 - r) * w10) - 1.0)
+        * pow(last.s, -p.w[9])
+        * (exp((1.0 - r) * p.w[10]) - 1.0)
         * hard_penalty
         * easy_bonus;
-    let branch = Branch::Success;
     Move {
-        s: s * (success_inc + 1.0),
-        branch,
+        s: last.s * (success_inc + 1.0),
+        branch: Branch::Success,
     }
 }

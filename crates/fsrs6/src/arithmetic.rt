@@ -1,28 +1,28 @@
-// exp, ln, pow, the fused multiply-add and rounding to a whole number, single and double, and exp less 1 in single. exp, ln, pow
-// and expm1 answer a NaN, refusal 10, outside their domain and nowhere else.
+//! exp, ln, pow, the fused multiply-add and rounding to a whole number, single and double, and exp less 1 in single. exp, ln, pow
+//! and expm1 answer a NaN, refusal 10, outside their domain and nowhere else.
 ghost use Rattle.std.specs.Prelude.{◌≡◌};
 ghost use Rattle.std.specs.Float.{binary32, binary64};
 ghost use Rattle.kernels.specs.Kernels.{exp_def, expm1_def, ln_def, pow_def};
 ghost use Rattle.soft.specs.Fma.{fma_def};
 ghost use Rattle.soft.specs.HalfAway.{round_def};
 
-use kernels::exp::{exp_f32, exp_f64};
+use kernels::exp::exp;
 use kernels::expm1::expm1_f32;
-use kernels::ln::{ln_f32, ln_f64};
-use kernels::pow::{pow_f32, pow_f64};
+use kernels::ln::ln;
+use kernels::pow::pow;
 use soft::fma::{fma_f32, fma_f64};
 use soft::half_away::{round_f32, round_f64};
 
 pub fn fsrs_exp_f32(x: f32) -> f32
     ensures { result ≡ exp_def binary32 x }
 {
-    exp_f32(x)
+    exp(x)
 }
 
 pub fn fsrs_exp_f64(x: f64) -> f64
     ensures { result ≡ exp_def binary64 x }
 {
-    exp_f64(x)
+    exp(x)
 }
 
 pub fn fsrs_expm1_f32(x: f32) -> f32
@@ -34,25 +34,25 @@ pub fn fsrs_expm1_f32(x: f32) -> f32
 pub fn fsrs_ln_f32(x: f32) -> f32
     ensures { result ≡ ln_def binary32 x }
 {
-    ln_f32(x)
+    ln(x)
 }
 
 pub fn fsrs_ln_f64(x: f64) -> f64
     ensures { result ≡ ln_def binary64 x }
 {
-    ln_f64(x)
+    ln(x)
 }
 
 pub fn fsrs_pow_f32(x: f32, y: f32) -> f32
     ensures { result ≡ pow_def binary32 x y }
 {
-    pow_f32(x, y)
+    pow(x, y)
 }
 
 pub fn fsrs_pow_f64(x: f64, y: f64) -> f64
     ensures { result ≡ pow_def binary64 x y }
 {
-    pow_f64(x, y)
+    pow(x, y)
 }
 
 pub fn fsrs_fma_f32(x: f32, y: f32, z: f32) -> f32

@@ -1,17 +1,21 @@
-// The loss of a batch of cards: alone, and with its gradient. `end` says that histories stand at the end of
-// their tables, behind padding.
-ghost use Rattle.columns.specs.Records.{room_def};
-ghost use Rattle.analytic_v6.specs.Cards.{cards_loss, cards_loss_and_grad, CardsColumnsLeave};
+//! The loss of a batch of cards: alone, and with its gradient. `end` says that histories stand at the end of
+//! their tables, behind padding.
+#![tactic(auto, using(crate::proofs::Given::given, analytic_v6::proofs::Left::in_columns), unfolding(crate::specs::Places::written))]
+
 ghost use Rattle.checks.specs.Align.{align_of};
 ghost use Rattle.checks.specs.Batch.{cards_of, cards_in_def};
-ghost use Rattle.fsrs6.specs.Places.{Answered};
-ghost use Rattle.std.specs.Prelude.{length};
+ghost use Rattle.fsrs6.specs.Losses.{GivesCardGrad, GivesCardLoss};
 
-use crate::places::put_f64;
-use analytic_v6::cards::grad_columns::{card_loss_and_grad_columns, card_loss_and_grad_columns_in};
-use analytic_v6::cards::loss::{card_loss, card_loss_in};
-use checks::align::align_of;
+use crate::places::answer;
+use analytic_v6::cards::grad::card_loss_and_grad;
+use analytic_v6::cards::loss::card_loss;
+use checks::align::Align;
+use checks::deck::{Cards, Table};
+use columns::records::Columns;
 
+// Stays: the C interface fixes the names and the parameters of these functions, of which many take eight and more.
+
+#[tactic(auto, unfolding(checks::specs::Align::align_of))]
 pub fn fsrs_card_loss(
     w: &[f32],
     t_hist: &[f32],
@@ -23,14 +27,15 @@ pub fn fsrs_card_loss(
     weights: &[f32],
     loss: &mut f64,
 ) -> u32
-    ensures { Answered (cards_loss w.now (cards_of t_hist.now r_hist.now seq_len batch
-        seq_lens.now labels.now weights.now)) result loss.old loss.new }
+    ensures { GivesCardLoss w.now (cards_of t_hist.now r_hist.now seq_len batch
+        seq_lens.now labels.now weights.now) result loss.old loss.new }
 {
-    let a = card_loss(w, t_hist, r_hist, seq_len, batch, seq_lens, labels, weights);
-    put_f64(loss, a.refusal, a.loss);
-    a.refusal
+    fsrs_card_loss_in(
+        false, w, t_hist, r_hist, seq_len, batch, seq_lens, labels, weights, loss,
+    )
 }
 
+#[tactic(auto, unfolding(checks::specs::Align::align_of))]
 pub fn fsrs_card_loss_and_grad(
     w: &[f32],
     t_hist: &[f32],
@@ -45,18 +50,14 @@ pub fn fsrs_card_loss_and_grad(
     step_grads: &mut [f64],
     loss: &mut f64,
 ) -> u32
-    ensures { let x = cards_of t_hist.now r_hist.now seq_len batch seq_lens.now
-        labels.now weights.now in
-        Answered (cards_loss_and_grad w.now x (length gw.old) (room_def (length records.old))
-        (length step_grads.old)) result loss.old loss.new ×
-        CardsColumnsLeave w.now x gw.old records.old step_grads.old gw.new
-        records.new step_grads.new }
+    ensures { GivesCardGrad w.now (cards_of t_hist.now r_hist.now seq_len batch seq_lens.now
+        labels.now weights.now) result
+        gw.old gw.new records.old records.new step_grads.old step_grads.new loss.old loss.new }
 {
-    let graded = card_loss_and_grad_columns(
-        w, t_hist, r_hist, seq_len, batch, seq_lens, labels, weights, gw, records, step_grads,
-    );
-    put_f64(loss, graded.refusal, graded.loss);
-    graded.refusal
+    fsrs_card_loss_and_grad_in(
+        false, w, t_hist, r_hist, seq_len, batch, seq_lens, labels, weights, gw, records,
+        step_grads, loss,
+    )
 }
 
 pub fn fsrs_card_loss_in(
@@ -71,22 +72,23 @@ pub fn fsrs_card_loss_in(
     weights: &[f32],
     loss: &mut f64,
 ) -> u32
-    ensures { Answered (cards_loss w.now (cards_in_def (align_of end) t_hist.now r_hist.now seq_len batch
-        seq_lens.now labels.now weights.now)) result loss.old loss.new }
+    ensures { GivesCardLoss w.now (cards_in_def (align_of end) t_hist.now r_hist.now seq_len batch
+        seq_lens.now labels.now weights.now) result loss.old loss.new }
 {
-    let a = card_loss_in(
-        align_of(end),
-        w,
-        t_hist,
-        r_hist,
-        seq_len,
-        batch,
-        seq_lens,
+    let table = Table {
+        days: t_hist,
+        ratings: r_hist,
+        rows: seq_len,
+        columns: batch,
+        lengths: seq_lens,
+        align: Align::from(end),
+    };
+    let deck = Cards {
+        table,
         labels,
         weights,
-    );
-    put_f64(loss, a.refusal, a.loss);
-    a.refusal
+    };
+    answer(card_loss(w, &deck), loss)
 }
 
 pub fn fsrs_card_loss_and_grad_in(
@@ -104,27 +106,25 @@ pub fn fsrs_card_loss_and_grad_in(
     step_grads: &mut [f64],
     loss: &mut f64,
 ) -> u32
-    ensures { let x = cards_in_def (align_of end) t_hist.now r_hist.now seq_len batch seq_lens.now
-        labels.now weights.now in
-        Answered (cards_loss_and_grad w.now x (length gw.old) (room_def (length records.old))
-        (length step_grads.old)) result loss.old loss.new ×
-        CardsColumnsLeave w.now x gw.old records.old step_grads.old gw.new
-        records.new step_grads.new }
+    ensures { GivesCardGrad w.now (cards_in_def (align_of end) t_hist.now r_hist.now seq_len batch seq_lens.now
+        labels.now weights.now) result
+        gw.old gw.new records.old records.new step_grads.old step_grads.new loss.old loss.new }
 {
-    let a = card_loss_and_grad_columns_in(
-        align_of(end),
-        w,
-        t_hist,
-        r_hist,
-        seq_len,
-        batch,
-        seq_lens,
+    let table = Table {
+        days: t_hist,
+        ratings: r_hist,
+        rows: seq_len,
+        columns: batch,
+        lengths: seq_lens,
+        align: Align::from(end),
+    };
+    let deck = Cards {
+        table,
         labels,
         weights,
-        gw,
-        records,
-        step_grads,
-    );
-    put_f64(loss, a.refusal, a.loss);
-    a.refusal
+    };
+    answer(
+        card_loss_and_grad::<Columns>(w, &deck, gw, records, step_grads),
+        loss,
+    )
 }

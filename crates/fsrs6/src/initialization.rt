@@ -1,9 +1,10 @@
-// A starting stability from first recalls.
-ghost use Rattle.fsrs6.specs.Places.{written};
-ghost use Rattle.parameter_initialization.specs.Start.{start_answer};
-ghost use Rattle.std.specs.Prelude.{◌≡◌};
+//! A starting stability from first recalls.
+#![tactic(auto, using(crate::proofs::Given::given), unfolding(crate::specs::Places::written))]
 
-use crate::places::put_f32;
+ghost use Rattle.fsrs6.specs.Study.{GivesStart};
+ghost use Rattle.parameter_initialization.specs.Start.{start_answer};
+
+use crate::places::answer;
 use parameter_initialization::stability::initial_stability;
 
 pub fn fsrs_initial_stability(
@@ -13,11 +14,10 @@ pub fn fsrs_initial_stability(
     default_stability: f64,
     stability: &mut f32,
 ) -> u32
-    ensures { let a = start_answer delta_t.now recall.now count.now default_stability in
-        (result ≡ a.refusal) ×
-        (stability.new ≡ written a.refusal a.value stability.old) }
+    ensures { GivesStart (start_answer delta_t.now recall.now count.now default_stability) result stability.old stability.new }
 {
-    let a = initial_stability(delta_t, recall, count, default_stability);
-    put_f32(stability, a.refusal, a.value);
-    a.refusal
+    answer(
+        initial_stability(delta_t, recall, count, default_stability),
+        stability,
+    )
 }

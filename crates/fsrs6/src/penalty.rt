@@ -1,10 +1,12 @@
-// The pull toward the old weights. The slots are written, and not added to.
-ghost use Rattle.fsrs6.specs.Places.{written};
-ghost use Rattle.training_v7.specs.Penalty.{penalty_answer, PenaltyLeaves};
-ghost use Rattle.std.specs.Prelude.{◌≡◌, length};
+//! The pull toward the old weights. The slots are written, and not added to.
+#![tactic(auto, using(crate::proofs::Given::given), unfolding(crate::specs::Places::written))]
 
-use crate::places::put_f64;
+ghost use Rattle.fsrs6.specs.Losses.{GivesPenalty};
+
+use crate::places::answer;
 use training_v7::penalty::l2_penalty_value_and_grad;
+
+// Stays: the C interface fixes the names and the parameters of these functions, of which many take eight and more.
 
 pub fn fsrs_l2_penalty(
     w: &[f32],
@@ -16,14 +18,10 @@ pub fn fsrs_l2_penalty(
     slots: &mut [f32],
     penalty: &mut f64,
 ) -> u32
-    ensures { let a = penalty_answer w.now init_w.now batch_size total_size l2_weight params_stddev.now
-        (length slots.old) in
-        (result ≡ a.refusal) ×
-        (penalty.new ≡ written a.refusal a.penalty penalty.old) ×
-        PenaltyLeaves w.now init_w.now batch_size total_size l2_weight params_stddev.now
-        slots.old slots.new }
+    ensures { GivesPenalty w.now init_w.now batch_size total_size l2_weight params_stddev.now result
+        slots.old slots.new penalty.old penalty.new }
 {
-    let a = l2_penalty_value_and_grad(
+    let answered = l2_penalty_value_and_grad(
         w,
         init_w,
         batch_size,
@@ -32,6 +30,5 @@ pub fn fsrs_l2_penalty(
         params_stddev,
         slots,
     );
-    put_f64(penalty, a.refusal, a.penalty);
-    a.refusal
+    answer(answered, penalty)
 }

@@ -1,19 +1,21 @@
-// The loss of a batch of prefixes: alone, and with its gradient. `end` says that histories stand at the end of
-// their tables, behind padding.
-ghost use Rattle.columns.specs.Records.{room_def};
-ghost use Rattle.analytic_v6.specs.Prefixes.{batch_loss_def, batch_loss_and_grad_def, BatchColumnsLeave};
+//! The loss of a batch of prefixes: alone, and with its gradient. `end` says that histories stand at the end of
+//! their tables, behind padding.
+#![tactic(auto, using(crate::proofs::Given::given, analytic_v6::proofs::Left::in_columns), unfolding(crate::specs::Places::written))]
+
 ghost use Rattle.checks.specs.Align.{align_of};
 ghost use Rattle.checks.specs.Batch.{prefixes_of, prefixes_in_def};
-ghost use Rattle.fsrs6.specs.Places.{Answered};
-ghost use Rattle.std.specs.Prelude.{length};
+ghost use Rattle.fsrs6.specs.Losses.{GivesBatchGrad, GivesBatchLoss};
 
-use crate::places::put_f64;
-use analytic_v6::prefixes::grad_columns::{
-    batch_loss_and_grad_columns, batch_loss_and_grad_columns_in,
-};
-use analytic_v6::prefixes::loss::{batch_loss, batch_loss_in};
-use checks::align::align_of;
+use crate::places::answer;
+use analytic_v6::prefixes::grad::batch_loss_and_grad;
+use analytic_v6::prefixes::loss::batch_loss;
+use checks::align::Align;
+use checks::deck::{Prefixes, Table};
+use columns::records::Columns;
 
+// Stays: the C interface fixes the names and the parameters of these functions, of which many take eight and more.
+
+#[tactic(auto, unfolding(checks::specs::Align::align_of))]
 pub fn fsrs_batch_loss(
     w: &[f32],
     t_hist: &[f32],
@@ -26,17 +28,15 @@ pub fn fsrs_batch_loss(
     weights: &[f32],
     loss: &mut f64,
 ) -> u32
-    ensures { Answered (batch_loss_def w.now (prefixes_of t_hist.now r_hist.now seq_len batch
-        seq_lens.now delta_ts.now labels.now weights.now)) result
-        loss.old loss.new }
+    ensures { GivesBatchLoss w.now (prefixes_of t_hist.now r_hist.now seq_len batch
+        seq_lens.now delta_ts.now labels.now weights.now) result loss.old loss.new }
 {
-    let a = batch_loss(
-        w, t_hist, r_hist, seq_len, batch, seq_lens, delta_ts, labels, weights,
-    );
-    put_f64(loss, a.refusal, a.loss);
-    a.refusal
+    fsrs_batch_loss_in(
+        false, w, t_hist, r_hist, seq_len, batch, seq_lens, delta_ts, labels, weights, loss,
+    )
 }
 
+#[tactic(auto, unfolding(checks::specs::Align::align_of))]
 pub fn fsrs_batch_loss_and_grad(
     w: &[f32],
     t_hist: &[f32],
@@ -51,17 +51,14 @@ pub fn fsrs_batch_loss_and_grad(
     records: &mut [f32],
     loss: &mut f64,
 ) -> u32
-    ensures { let x = prefixes_of t_hist.now r_hist.now seq_len batch seq_lens.now
-        delta_ts.now labels.now weights.now in
-        Answered (batch_loss_and_grad_def w.now x (length gw.old) (room_def (length records.old))) result
-        loss.old loss.new ×
-        BatchColumnsLeave w.now x gw.old records.old gw.new records.new }
+    ensures { GivesBatchGrad w.now (prefixes_of t_hist.now r_hist.now seq_len batch seq_lens.now
+        delta_ts.now labels.now weights.now) result
+        gw.old gw.new records.old records.new loss.old loss.new }
 {
-    let graded = batch_loss_and_grad_columns(
-        w, t_hist, r_hist, seq_len, batch, seq_lens, delta_ts, labels, weights, gw, records,
-    );
-    put_f64(loss, graded.refusal, graded.loss);
-    graded.refusal
+    fsrs_batch_loss_and_grad_in(
+        false, w, t_hist, r_hist, seq_len, batch, seq_lens, delta_ts, labels, weights, gw, records,
+        loss,
+    )
 }
 
 pub fn fsrs_batch_loss_in(
@@ -77,24 +74,24 @@ pub fn fsrs_batch_loss_in(
     weights: &[f32],
     loss: &mut f64,
 ) -> u32
-    ensures { Answered (batch_loss_def w.now (prefixes_in_def (align_of end) t_hist.now r_hist.now seq_len batch
-        seq_lens.now delta_ts.now labels.now weights.now)) result
-        loss.old loss.new }
+    ensures { GivesBatchLoss w.now (prefixes_in_def (align_of end) t_hist.now r_hist.now seq_len batch
+        seq_lens.now delta_ts.now labels.now weights.now) result loss.old loss.new }
 {
-    let a = batch_loss_in(
-        align_of(end),
-        w,
-        t_hist,
-        r_hist,
-        seq_len,
-        batch,
-        seq_lens,
-        delta_ts,
+    let table = Table {
+        days: t_hist,
+        ratings: r_hist,
+        rows: seq_len,
+        columns: batch,
+        lengths: seq_lens,
+        align: Align::from(end),
+    };
+    let deck = Prefixes {
+        table,
+        days: delta_ts,
         labels,
         weights,
-    );
-    put_f64(loss, a.refusal, a.loss);
-    a.refusal
+    };
+    answer(batch_loss(w, &deck), loss)
 }
 
 pub fn fsrs_batch_loss_and_grad_in(
@@ -112,26 +109,24 @@ pub fn fsrs_batch_loss_and_grad_in(
     records: &mut [f32],
     loss: &mut f64,
 ) -> u32
-    ensures { let x = prefixes_in_def (align_of end) t_hist.now r_hist.now seq_len batch seq_lens.now
-        delta_ts.now labels.now weights.now in
-        Answered (batch_loss_and_grad_def w.now x (length gw.old) (room_def (length records.old))) result
-        loss.old loss.new ×
-        BatchColumnsLeave w.now x gw.old records.old gw.new records.new }
+    ensures { GivesBatchGrad w.now (prefixes_in_def (align_of end) t_hist.now r_hist.now seq_len batch seq_lens.now
+        delta_ts.now labels.now weights.now) result
+        gw.old gw.new records.old records.new loss.old loss.new }
 {
-    let a = batch_loss_and_grad_columns_in(
-        align_of(end),
-        w,
-        t_hist,
-        r_hist,
-        seq_len,
-        batch,
-        seq_lens,
-        delta_ts,
+    let table = Table {
+        days: t_hist,
+        ratings: r_hist,
+        rows: seq_len,
+        columns: batch,
+        lengths: seq_lens,
+        align: Align::from(end),
+    };
+    let deck = Prefixes {
+        table,
+        days: delta_ts,
         labels,
         weights,
-        gw,
-        records,
-    );
-    put_f64(loss, a.refusal, a.loss);
-    a.refusal
+    };
+    let graded = batch_loss_and_grad::<Columns>(w, &deck, gw, records);
+    answer(graded, loss)
 }

@@ -1,24 +1,17 @@
-// One training step and its reverse.
-ghost use Rattle.std.specs.Prelude.{◌≡◌, length};
-ghost use Rattle.analytic_v6.specs.Step.{training_step_def, training_reverse, reverse_slots_def};
-ghost use Rattle.forward.specs.declared.state.State.{State};
-ghost use Rattle.fsrs6.specs.Places.{written};
-ghost use Rattle.fsrs6.specs.Numbers.{recorded};
+//! One training step and its reverse.
+#![tactic(auto, using(crate::proofs::Given::given), unfolding(crate::specs::Places::written, crate::specs::Numbers::recorded))]
 
-use crate::places::{put_f32, put_f64};
-use analytic_v6::step::{training_step, training_step_backward};
-use columns::records::store_step;
-use forward::state::{State, StepRecord};
+ghost use Rattle.fsrs6.specs.Step.{GivesReverse, GivesStep};
+
+use analytic_v6::step::{OutputGrad, training_step, training_step_backward};
+use backward::step::StateGrad;
+use columns::layout::Layout;
+use columns::records::Columns;
+use forward::state::State;
+
+// Stays: the C interface fixes the names and the parameters of these functions, of which many take eight and more.
 
 // The record's ten numbers are one row of a table of records.
-fn put_step(numbers: &mut [f32; 10], refusal: u32, step: StepRecord)
-    ensures { numbers.new ≡ recorded refusal step numbers.old }
-{
-    if refusal == 0 {
-        store_step(numbers, 0, step);
-    }
-}
-
 pub fn fsrs_training_step(
     w: &[f32],
     stability: f32,
@@ -30,24 +23,22 @@ pub fn fsrs_training_step(
     next_difficulty: &mut f32,
     numbers: &mut [f32; 10],
 ) -> u32
-    ensures { (let q : State = record { s = stability; d = difficulty } in
-        let a = training_step_def w.now q day rating row in
-        (result ≡ a.refusal) ×
-        (next_stability.new ≡ written a.refusal a.state.s next_stability.old) ×
-        (next_difficulty.new ≡ written a.refusal a.state.d next_difficulty.old) ×
-        (numbers.new ≡ recorded a.refusal a.step numbers.old)) }
+    ensures { GivesStep w.now stability difficulty day rating row result
+        next_stability.old next_stability.new next_difficulty.old next_difficulty.new numbers.old numbers.new }
 {
-    let q = State {
+    let given = State {
         s: stability,
         d: difficulty,
     };
-    let a = training_step(w, q, day, rating, row);
-    let next = a.state;
-    let step = a.step;
-    put_f32(next_stability, a.refusal, next.s);
-    put_f32(next_difficulty, a.refusal, next.d);
-    put_step(numbers, a.refusal, step);
-    a.refusal
+    match training_step(w, given, day, rating, row) {
+        Ok(next) => {
+            *next_stability = next.state.s;
+            *next_difficulty = next.state.d;
+            Columns::store(numbers, 0, &next.step);
+            0
+        }
+        Err(refusal) => refusal.number(),
+    }
 }
 
 pub fn fsrs_training_step_backward(
@@ -64,20 +55,24 @@ pub fn fsrs_training_step_backward(
     grad_s: &mut f64,
     grad_d: &mut f64,
 ) -> u32
-    ensures { (let q : State = record { s = stability; d = difficulty } in
-        let a = training_reverse w.now q day rating row g_s g_d g_r (length gw.old) in
-        (result ≡ a.refusal) ×
-        (gw.new ≡ reverse_slots_def w.now q day rating row g_s g_d g_r gw.old) ×
-        (grad_s.new ≡ written a.refusal a.grad.s grad_s.old) ×
-        (grad_d.new ≡ written a.refusal a.grad.d grad_d.old)) }
+    ensures { GivesReverse w.now stability difficulty day rating row g_s g_d g_r result
+        gw.old gw.new grad_s.old grad_s.new grad_d.old grad_d.new }
 {
-    let q = State {
+    let given = State {
         s: stability,
         d: difficulty,
     };
-    let a = training_step_backward(w, q, day, rating, row, g_s, g_d, g_r, gw);
-    let grad = a.grad;
-    put_f64(grad_s, a.refusal, grad.s);
-    put_f64(grad_d, a.refusal, grad.d);
-    a.refusal
+    let by_state = StateGrad { s: g_s, d: g_d };
+    let g = OutputGrad {
+        state: by_state,
+        retrievability: g_r,
+    };
+    match training_step_backward(w, given, day, rating, row, g, gw) {
+        Ok(grad) => {
+            *grad_s = grad.s;
+            *grad_d = grad.d;
+            0
+        }
+        Err(refusal) => refusal.number(),
+    }
 }

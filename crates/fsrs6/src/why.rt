@@ -1,30 +1,39 @@
-// Why a card moved, and why a loss call is refused and for which cell. Each answer is returned, and nothing is lent to be written.
+//! Why a card moved, and why a loss call is refused and for which cell. Each answer is returned, and nothing is lent to be written.
 ghost use Rattle.std.specs.Prelude.{◌≡◌};
 ghost use Rattle.checks.specs.Align.{align_of};
 ghost use Rattle.checks.specs.Batch.{prefixes_in_def, cards_in_def};
-ghost use Rattle.checks.specs.Refusals.{prefix_loss_fault, prefix_grad_fault, card_loss_fault_def, card_grad_fault};
-ghost use Rattle.columns.specs.Records.{room_def};
-ghost use Rattle.explain.specs.Step.{explain_def};
-ghost use Rattle.forward.specs.declared.state.State.{State};
-ghost use Rattle.fsrs6.specs.Why.{numbered};
+ghost use Rattle.fsrs6.specs.Why.{batch_fault, batch_grad_fault, card_fault, card_grad_fault, explained_step};
 
-use checks::align::align_of;
-use checks::fault::Fault;
+use checks::align::Align;
+use checks::deck::{Cards, Prefixes, Table};
 use checks::places::{
     batch_loss_and_grad_fault, batch_loss_fault, card_loss_and_grad_fault, card_loss_fault,
 };
-use explain::reasons::{held_number, reason_number};
+use columns::layout::Layout;
+use columns::records::Columns;
 use explain::step::explain_step;
 use forward::state::State;
 
-// The refusal and the numbers of the reason and of the two ends.
+// Stays: the C interface fixes the names and the parameters of these functions, of which many take eight and more.
+
+// Stays: numbers and not enums, since they are `fsrs_reason` and `fsrs_fault` of include/fsrs6.h, the C interface.
+/// The refusal and the numbers of the reason and of the two ends.
 #[repr(C)]
-#[derive(Clone, Copy)]
+#[derive(Clone, Copy, Debug, PartialEq, Eq, Hash)]
 pub struct ReasonNumbers {
     pub refusal: u32,
     pub reason: u32,
     pub stability_held: u32,
     pub difficulty_held: u32,
+}
+
+/// The refusal, 0 where there is none, and the cell that is bad. Column and row are 0 where no cell is the reason.
+#[repr(C)]
+#[derive(Clone, Copy, Debug, PartialEq, Eq, Hash)]
+pub struct FaultNumbers {
+    pub refusal: u32,
+    pub column: u32,
+    pub row: u32,
 }
 
 pub fn fsrs_explain_step(
@@ -35,25 +44,13 @@ pub fn fsrs_explain_step(
     rating: f32,
     row: usize,
 ) -> ReasonNumbers
-    ensures { (let q : State = record { s = stability; d = difficulty } in result ≡ numbered (explain_def w.now q day rating row)) }
+    ensures { result ≡ explained_step w.now stability difficulty day rating row }
 {
-    let q = State {
+    let given = State {
         s: stability,
         d: difficulty,
     };
-    let a = explain_step(w, q, day, rating, row);
-    let why = a.reason;
-    let s_end = a.stability;
-    let d_end = a.difficulty;
-    let reason = reason_number(why);
-    let stability_held = held_number(s_end);
-    let difficulty_held = held_number(d_end);
-    ReasonNumbers {
-        refusal: a.refusal,
-        reason,
-        stability_held,
-        difficulty_held,
-    }
+    ReasonNumbers::from(explain_step(w, given, day, rating, row))
 }
 
 pub fn fsrs_batch_loss_fault(
@@ -67,22 +64,25 @@ pub fn fsrs_batch_loss_fault(
     delta_ts: &[f32],
     labels: &[f32],
     weights: &[f32],
-) -> Fault
-    ensures { result ≡ prefix_loss_fault w.now (prefixes_in_def (align_of end) t_hist.now r_hist.now seq_len batch
+) -> FaultNumbers
+    ensures { result ≡ batch_fault w.now (prefixes_in_def (align_of end) t_hist.now r_hist.now seq_len batch
         seq_lens.now delta_ts.now labels.now weights.now) }
 {
-    batch_loss_fault(
-        align_of(end),
-        w,
-        t_hist,
-        r_hist,
-        seq_len,
-        batch,
-        seq_lens,
-        delta_ts,
+    let table = Table {
+        days: t_hist,
+        ratings: r_hist,
+        rows: seq_len,
+        columns: batch,
+        lengths: seq_lens,
+        align: Align::from(end),
+    };
+    let deck = Prefixes {
+        table,
+        days: delta_ts,
         labels,
         weights,
-    )
+    };
+    FaultNumbers::from(batch_loss_fault(w, &deck))
 }
 
 // The records are counted in singles, ten for each.
@@ -99,24 +99,25 @@ pub fn fsrs_batch_loss_and_grad_fault(
     weights: &[f32],
     gw_len: usize,
     records_len: usize,
-) -> Fault
-    ensures { result ≡ prefix_grad_fault w.now (prefixes_in_def (align_of end) t_hist.now r_hist.now seq_len batch
-        seq_lens.now delta_ts.now labels.now weights.now) gw_len (room_def records_len) }
+) -> FaultNumbers
+    ensures { result ≡ batch_grad_fault w.now (prefixes_in_def (align_of end) t_hist.now r_hist.now seq_len batch
+        seq_lens.now delta_ts.now labels.now weights.now) gw_len records_len }
 {
-    batch_loss_and_grad_fault(
-        align_of(end),
-        w,
-        t_hist,
-        r_hist,
-        seq_len,
-        batch,
-        seq_lens,
-        delta_ts,
+    let table = Table {
+        days: t_hist,
+        ratings: r_hist,
+        rows: seq_len,
+        columns: batch,
+        lengths: seq_lens,
+        align: Align::from(end),
+    };
+    let deck = Prefixes {
+        table,
+        days: delta_ts,
         labels,
         weights,
-        gw_len,
-        records_len / 10,
-    )
+    };
+    FaultNumbers::from(batch_loss_and_grad_fault(w, &deck, gw_len, Columns::room(records_len)))
 }
 
 pub fn fsrs_card_loss_fault(
@@ -129,21 +130,24 @@ pub fn fsrs_card_loss_fault(
     seq_lens: &[u32],
     labels: &[f32],
     weights: &[f32],
-) -> Fault
-    ensures { result ≡ card_loss_fault_def w.now (cards_in_def (align_of end) t_hist.now r_hist.now seq_len batch
+) -> FaultNumbers
+    ensures { result ≡ card_fault w.now (cards_in_def (align_of end) t_hist.now r_hist.now seq_len batch
         seq_lens.now labels.now weights.now) }
 {
-    card_loss_fault(
-        align_of(end),
-        w,
-        t_hist,
-        r_hist,
-        seq_len,
-        batch,
-        seq_lens,
+    let table = Table {
+        days: t_hist,
+        ratings: r_hist,
+        rows: seq_len,
+        columns: batch,
+        lengths: seq_lens,
+        align: Align::from(end),
+    };
+    let deck = Cards {
+        table,
         labels,
         weights,
-    )
+    };
+    FaultNumbers::from(card_loss_fault(w, &deck))
 }
 
 pub fn fsrs_card_loss_and_grad_fault(
@@ -159,22 +163,28 @@ pub fn fsrs_card_loss_and_grad_fault(
     gw_len: usize,
     records_len: usize,
     step_grads_len: usize,
-) -> Fault
+) -> FaultNumbers
     ensures { result ≡ card_grad_fault w.now (cards_in_def (align_of end) t_hist.now r_hist.now seq_len batch
-        seq_lens.now labels.now weights.now) gw_len (room_def records_len) step_grads_len }
+        seq_lens.now labels.now weights.now) gw_len records_len step_grads_len }
 {
-    card_loss_and_grad_fault(
-        align_of(end),
-        w,
-        t_hist,
-        r_hist,
-        seq_len,
-        batch,
-        seq_lens,
+    let table = Table {
+        days: t_hist,
+        ratings: r_hist,
+        rows: seq_len,
+        columns: batch,
+        lengths: seq_lens,
+        align: Align::from(end),
+    };
+    let deck = Cards {
+        table,
         labels,
         weights,
+    };
+    FaultNumbers::from(card_loss_and_grad_fault(
+        w,
+        &deck,
         gw_len,
-        records_len / 10,
+        Columns::room(records_len),
         step_grads_len,
-    )
+    ))
 }

@@ -1,5 +1,5 @@
-// exp, ln, pow, the fused multiply-add and rounding to a whole number, single and double, and exp less 1 in single. exp, ln, pow
-// and expm1 answer a NaN, refusal 10, outside their domain and nowhere else.
+//! exp, ln, pow, the fused multiply-add and rounding to a whole number, single and double, and exp less 1 in single. exp, ln, pow
+//! and expm1 answer a NaN, refusal 10, outside their domain and nowhere else.
 ghost use Rattle.std.specs.Prelude.{◌≡◌};
 ghost use Rattle.std.specs.Float.{binary32, binary64};
 ghost use Rattle.kernels.specs.Kernels.{exp_def, expm1_def, ln_def, pow_def};

@@ -1,11 +1,8 @@
-// The loss of a batch of cards: alone, and with its gradient. `end` says that histories stand at the end of
-// their tables, behind padding.
-ghost use Rattle.columns.specs.Records.{room_def};
-ghost use Rattle.analytic_v6.specs.Cards.{cards_loss, cards_loss_and_grad, CardsColumnsLeave};
+//! The loss of a batch of cards: alone, and with its gradient. `end` says that histories stand at the end of
+//! their tables, behind padding.
 ghost use Rattle.checks.specs.Align.{align_of};
 ghost use Rattle.checks.specs.Batch.{cards_of, cards_in_def};
-ghost use Rattle.fsrs6.specs.Places.{Answered};
-ghost use Rattle.std.specs.Prelude.{length};
+ghost use Rattle.fsrs6.specs.Losses.{GivesCardGrad, GivesCardLoss};
 
 #[unsafe(no_mangle)]
 pub extern "C" fn fsrs_card_loss(
@@ -19,8 +16,8 @@ pub extern "C" fn fsrs_card_loss(
     weights: &[f32],
     loss: &mut f64,
 ) -> u32
-    ensures { Answered (cards_loss w.now (cards_of t_hist.now r_hist.now seq_len batch
-        seq_lens.now labels.now weights.now)) result loss.old loss.new }
+    ensures { GivesCardLoss w.now (cards_of t_hist.now r_hist.now seq_len batch
+        seq_lens.now labels.now weights.now) result loss.old loss.new }
 {
     fsrs6::cards::fsrs_card_loss(
         w, t_hist, r_hist, seq_len, batch, seq_lens, labels, weights, loss,
@@ -42,12 +39,9 @@ pub extern "C" fn fsrs_card_loss_and_grad(
     step_grads: &mut [f64],
     loss: &mut f64,
 ) -> u32
-    ensures { let x = cards_of t_hist.now r_hist.now seq_len batch seq_lens.now
-        labels.now weights.now in
-        Answered (cards_loss_and_grad w.now x (length gw.old) (room_def (length records.old))
-        (length step_grads.old)) result loss.old loss.new ×
-        CardsColumnsLeave w.now x gw.old records.old step_grads.old gw.new
-        records.new step_grads.new }
+    ensures { GivesCardGrad w.now (cards_of t_hist.now r_hist.now seq_len batch seq_lens.now
+        labels.now weights.now) result
+        gw.old gw.new records.old records.new step_grads.old step_grads.new loss.old loss.new }
 {
     fsrs6::cards::fsrs_card_loss_and_grad(
         w, t_hist, r_hist, seq_len, batch, seq_lens, labels, weights, gw, records, step_grads, loss,
@@ -67,8 +61,8 @@ pub extern "C" fn fsrs_card_loss_in(
     weights: &[f32],
     loss: &mut f64,
 ) -> u32
-    ensures { Answered (cards_loss w.now (cards_in_def (align_of end) t_hist.now r_hist.now seq_len batch
-        seq_lens.now labels.now weights.now)) result loss.old loss.new }
+    ensures { GivesCardLoss w.now (cards_in_def (align_of end) t_hist.now r_hist.now seq_len batch
+        seq_lens.now labels.now weights.now) result loss.old loss.new }
 {
     fsrs6::cards::fsrs_card_loss_in(
         end, w, t_hist, r_hist, seq_len, batch, seq_lens, labels, weights, loss,
@@ -91,12 +85,9 @@ pub extern "C" fn fsrs_card_loss_and_grad_in(
     step_grads: &mut [f64],
     loss: &mut f64,
 ) -> u32
-    ensures { let x = cards_in_def (align_of end) t_hist.now r_hist.now seq_len batch seq_lens.now
-        labels.now weights.now in
-        Answered (cards_loss_and_grad w.now x (length gw.old) (room_def (length records.old))
-        (length step_grads.old)) result loss.old loss.new ×
-        CardsColumnsLeave w.now x gw.old records.old step_grads.old gw.new
-        records.new step_grads.new }
+    ensures { GivesCardGrad w.now (cards_in_def (align_of end) t_hist.now r_hist.now seq_len batch seq_lens.now
+        labels.now weights.now) result
+        gw.old gw.new records.old records.new step_grads.old step_grads.new loss.old loss.new }
 {
     fsrs6::cards::fsrs_card_loss_and_grad_in(
         end, w, t_hist, r_hist, seq_len, batch, seq_lens, labels, weights, gw, records, step_grads,

@@ -1,7 +1,6 @@
-// A starting stability from first recalls.
-ghost use Rattle.fsrs6.specs.Places.{written};
+//! A starting stability from first recalls.
+ghost use Rattle.fsrs6.specs.Study.{GivesStart};
 ghost use Rattle.parameter_initialization.specs.Start.{start_answer};
-ghost use Rattle.std.specs.Prelude.{◌≡◌};
 
 #[unsafe(no_mangle)]
 pub extern "C" fn fsrs_initial_stability(
@@ -11,9 +10,7 @@ pub extern "C" fn fsrs_initial_stability(
     default_stability: f64,
     stability: &mut f32,
 ) -> u32
-    ensures { let a = start_answer delta_t.now recall.now count.now default_stability in
-        (result ≡ a.refusal) ×
-        (stability.new ≡ written a.refusal a.value stability.old) }
+    ensures { GivesStart (start_answer delta_t.now recall.now count.now default_stability) result stability.old stability.new }
 {
     fsrs6::initialization::fsrs_initial_stability(
         delta_t,

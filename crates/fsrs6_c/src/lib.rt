@@ -1,5 +1,5 @@
-// The C functions of include/fsrs6.h: each is a call of `fsrs6`'s function of its name, with the same clauses. No crate can stand on a
-// static library, so what is stated of them in `outcomes` is stated of `fsrs6`'s; `tools/entries` sees that the two say the same.
+//! The C functions of include/fsrs6.h: each is a call of `fsrs6`'s function of its name, with the same clauses. No crate can stand on a
+//! static library, so what is stated of them in `outcomes` is stated of `fsrs6`'s; `tools/entries` sees that the two say the same.
 #![tactic(auto)]
 
 pub mod arithmetic;

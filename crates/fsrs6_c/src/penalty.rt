@@ -1,7 +1,5 @@
-// The pull toward the old weights. The slots are written, and not added to.
-ghost use Rattle.fsrs6.specs.Places.{written};
-ghost use Rattle.training_v7.specs.Penalty.{penalty_answer, PenaltyLeaves};
-ghost use Rattle.std.specs.Prelude.{◌≡◌, length};
+//! The pull toward the old weights. The slots are written, and not added to.
+ghost use Rattle.fsrs6.specs.Losses.{GivesPenalty};
 
 #[unsafe(no_mangle)]
 pub extern "C" fn fsrs_l2_penalty(
@@ -14,12 +12,8 @@ pub extern "C" fn fsrs_l2_penalty(
     slots: &mut [f32],
     penalty: &mut f64,
 ) -> u32
-    ensures { let a = penalty_answer w.now init_w.now batch_size total_size l2_weight params_stddev.now
-        (length slots.old) in
-        (result ≡ a.refusal) ×
-        (penalty.new ≡ written a.refusal a.penalty penalty.old) ×
-        PenaltyLeaves w.now init_w.now batch_size total_size l2_weight params_stddev.now
-        slots.old slots.new }
+    ensures { GivesPenalty w.now init_w.now batch_size total_size l2_weight params_stddev.now result
+        slots.old slots.new penalty.old penalty.new }
 {
     fsrs6::penalty::fsrs_l2_penalty(
         w,

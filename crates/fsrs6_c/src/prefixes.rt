@@ -1,11 +1,8 @@
-// The loss of a batch of prefixes: alone, and with its gradient. `end` says that histories stand at the end of
-// their tables, behind padding.
-ghost use Rattle.columns.specs.Records.{room_def};
-ghost use Rattle.analytic_v6.specs.Prefixes.{batch_loss_def, batch_loss_and_grad_def, BatchColumnsLeave};
+//! The loss of a batch of prefixes: alone, and with its gradient. `end` says that histories stand at the end of
+//! their tables, behind padding.
 ghost use Rattle.checks.specs.Align.{align_of};
 ghost use Rattle.checks.specs.Batch.{prefixes_of, prefixes_in_def};
-ghost use Rattle.fsrs6.specs.Places.{Answered};
-ghost use Rattle.std.specs.Prelude.{length};
+ghost use Rattle.fsrs6.specs.Losses.{GivesBatchGrad, GivesBatchLoss};
 
 #[unsafe(no_mangle)]
 pub extern "C" fn fsrs_batch_loss(
@@ -20,9 +17,8 @@ pub extern "C" fn fsrs_batch_loss(
     weights: &[f32],
     loss: &mut f64,
 ) -> u32
-    ensures { Answered (batch_loss_def w.now (prefixes_of t_hist.now r_hist.now seq_len batch
-        seq_lens.now delta_ts.now labels.now weights.now)) result
-        loss.old loss.new }
+    ensures { GivesBatchLoss w.now (prefixes_of t_hist.now r_hist.now seq_len batch
+        seq_lens.now delta_ts.now labels.now weights.now) result loss.old loss.new }
 {
     fsrs6::prefixes::fsrs_batch_loss(
         w, t_hist, r_hist, seq_len, batch, seq_lens, delta_ts, labels, weights, loss,
@@ -44,11 +40,9 @@ pub extern "C" fn fsrs_batch_loss_and_grad(
     records: &mut [f32],
     loss: &mut f64,
 ) -> u32
-    ensures { let x = prefixes_of t_hist.now r_hist.now seq_len batch seq_lens.now
-        delta_ts.now labels.now weights.now in
-        Answered (batch_loss_and_grad_def w.now x (length gw.old) (room_def (length records.old))) result
-        loss.old loss.new ×
-        BatchColumnsLeave w.now x gw.old records.old gw.new records.new }
+    ensures { GivesBatchGrad w.now (prefixes_of t_hist.now r_hist.now seq_len batch seq_lens.now
+        delta_ts.now labels.now weights.now) result
+        gw.old gw.new records.old records.new loss.old loss.new }
 {
     fsrs6::prefixes::fsrs_batch_loss_and_grad(
         w, t_hist, r_hist, seq_len, batch, seq_lens, delta_ts, labels, weights, gw, records, loss,
@@ -69,9 +63,8 @@ pub extern "C" fn fsrs_batch_loss_in(
     weights: &[f32],
     loss: &mut f64,
 ) -> u32
-    ensures { Answered (batch_loss_def w.now (prefixes_in_def (align_of end) t_hist.now r_hist.now seq_len batch
-        seq_lens.now delta_ts.now labels.now weights.now)) result
-        loss.old loss.new }
+    ensures { GivesBatchLoss w.now (prefixes_in_def (align_of end) t_hist.now r_hist.now seq_len batch
+        seq_lens.now delta_ts.now labels.now weights.now) result loss.old loss.new }
 {
     fsrs6::prefixes::fsrs_batch_loss_in(
         end, w, t_hist, r_hist, seq_len, batch, seq_lens, delta_ts, labels, weights, loss,
@@ -94,11 +87,9 @@ pub extern "C" fn fsrs_batch_loss_and_grad_in(
     records: &mut [f32],
     loss: &mut f64,
 ) -> u32
-    ensures { let x = prefixes_in_def (align_of end) t_hist.now r_hist.now seq_len batch seq_lens.now
-        delta_ts.now labels.now weights.now in
-        Answered (batch_loss_and_grad_def w.now x (length gw.old) (room_def (length records.old))) result
-        loss.old loss.new ×
-        BatchColumnsLeave w.now x gw.old records.old gw.new records.new }
+    ensures { GivesBatchGrad w.now (prefixes_in_def (align_of end) t_hist.now r_hist.now seq_len batch seq_lens.now
+        delta_ts.now labels.now weights.now) result
+        gw.old gw.new records.old records.new loss.old loss.new }
 {
     fsrs6::prefixes::fsrs_batch_loss_and_grad_in(
         end, w, t_hist, r_hist, seq_len, batch, seq_lens, delta_ts, labels, weights, gw, records,

@@ -1,11 +1,5 @@
-// One training step and its reverse.
-ghost use Rattle.std.specs.Prelude.{◌≡◌, length};
-ghost use Rattle.analytic_v6.specs.Step.{training_step_def, training_reverse, reverse_slots_def};
-ghost use Rattle.forward.specs.declared.state.State.{State};
-ghost use Rattle.fsrs6.specs.Places.{written};
-ghost use Rattle.fsrs6.specs.Numbers.{recorded};
-
-use forward::state::State;
+//! One training step and its reverse.
+ghost use Rattle.fsrs6.specs.Step.{GivesReverse, GivesStep};
 
 #[unsafe(no_mangle)]
 pub extern "C" fn fsrs_training_step(
@@ -19,12 +13,8 @@ pub extern "C" fn fsrs_training_step(
     next_difficulty: &mut f32,
     numbers: &mut [f32; 10],
 ) -> u32
-    ensures { (let q : State = record { s = stability; d = difficulty } in
-        let a = training_step_def w.now q day rating row in
-        (result ≡ a.refusal) ×
-        (next_stability.new ≡ written a.refusal a.state.s next_stability.old) ×
-        (next_difficulty.new ≡ written a.refusal a.state.d next_difficulty.old) ×
-        (numbers.new ≡ recorded a.refusal a.step numbers.old)) }
+    ensures { GivesStep w.now stability difficulty day rating row result
+        next_stability.old next_stability.new next_difficulty.old next_difficulty.new numbers.old numbers.new }
 {
     fsrs6::step::fsrs_training_step(
         w,
@@ -54,12 +44,8 @@ pub extern "C" fn fsrs_training_step_backward(
     grad_s: &mut f64,
     grad_d: &mut f64,
 ) -> u32
-    ensures { (let q : State = record { s = stability; d = difficulty } in
-        let a = training_reverse w.now q day rating row g_s g_d g_r (length gw.old) in
-        (result ≡ a.refusal) ×
-        (gw.new ≡ reverse_slots_def w.now q day rating row g_s g_d g_r gw.old) ×
-        (grad_s.new ≡ written a.refusal a.grad.s grad_s.old) ×
-        (grad_d.new ≡ written a.refusal a.grad.d grad_d.old)) }
+    ensures { GivesReverse w.now stability difficulty day rating row g_s g_d g_r result
+        gw.old gw.new grad_s.old grad_s.new grad_d.old grad_d.new }
 {
     fsrs6::step::fsrs_training_step_backward(
         w, stability, difficulty, day, rating, row, g_s, g_d, g_r, gw, grad_s, grad_d,

@@ -1,21 +1,16 @@
-// The study screen's formulas, and a weight set made whole.
-ghost use Rattle.std.specs.Prelude.{◌≡◌};
-ghost use Rattle.fsrs6.specs.Places.{written};
+//! The study screen's formulas, and a weight set made whole.
+ghost use Rattle.fsrs6.specs.Study.{GivesSeen, GivesSingle, GivesState, GivesVerdict, GivesWeights, claimed_of, seen_of, state_of};
 ghost use Rattle.model_v6.specs.Answers.{curve_scalar, interval_scalar, stability_after_success_scalar_def, stability_after_failure_scalar_def, stability_short_term_scalar_def, init_difficulty_scalar_def, mean_reversion_scalar_def, next_difficulty_scalar_def, next_state_scalar_def, first_state_scalar_def, sm2_scalar};
 ghost use Rattle.model_v6.specs.Filling.{fill_answer};
-ghost use Rattle.model_v6.specs.Rows.{row_check, refusal_of_def, verdict_of_def};
+ghost use Rattle.model_v6.specs.Rows.{row_check};
 ghost use Rattle.model_v6.specs.Seen.{on_day_scalar};
-ghost use Rattle.model_v6.specs.declared.rows.Claimed.{Claimed};
-ghost use Rattle.model_v6.specs.declared.state.MemoryState.{MemoryState};
 
 use model_v6::rows::Claimed;
 use model_v6::state::MemoryState;
 
 #[unsafe(no_mangle)]
 pub extern "C" fn fsrs_check_and_fill_parameters(parameters: &[f32], weights: &mut [f32; 21]) -> u32
-    ensures { let a = fill_answer parameters.now in
-        (result ≡ a.refusal) ×
-        (weights.new ≡ written a.refusal a.weights weights.old) }
+    ensures { GivesWeights (fill_answer parameters.now) result weights.old weights.new }
 {
     fsrs6::study::fsrs_check_and_fill_parameters(parameters, weights)
 }
@@ -27,9 +22,7 @@ pub extern "C" fn fsrs_power_forgetting_curve(
     s: f32,
     retrievability: &mut f32,
 ) -> u32
-    ensures { let a = curve_scalar w.now t s in
-        (result ≡ a.refusal) ×
-        (retrievability.new ≡ written a.refusal a.value retrievability.old) }
+    ensures { GivesSingle (curve_scalar w.now t s) result retrievability.old retrievability.new }
 {
     fsrs6::study::fsrs_power_forgetting_curve(w, t, s, retrievability)
 }
@@ -41,9 +34,7 @@ pub extern "C" fn fsrs_next_interval(
     desired_retention: f32,
     days: &mut f32,
 ) -> u32
-    ensures { let a = interval_scalar w.now stability desired_retention in
-        (result ≡ a.refusal) ×
-        (days.new ≡ written a.refusal a.value days.old) }
+    ensures { GivesSingle (interval_scalar w.now stability desired_retention) result days.old days.new }
 {
     fsrs6::study::fsrs_next_interval(w, stability, desired_retention, days)
 }
@@ -57,9 +48,7 @@ pub extern "C" fn fsrs_stability_after_success(
     rating: u32,
     stability: &mut f32,
 ) -> u32
-    ensures { let a = stability_after_success_scalar_def w.now s r d rating in
-        (result ≡ a.refusal) ×
-        (stability.new ≡ written a.refusal a.value stability.old) }
+    ensures { GivesSingle (stability_after_success_scalar_def w.now s r d rating) result stability.old stability.new }
 {
     fsrs6::study::fsrs_stability_after_success(w, s, r, d, rating, stability)
 }
@@ -72,9 +61,7 @@ pub extern "C" fn fsrs_stability_after_failure(
     d: f32,
     stability: &mut f32,
 ) -> u32
-    ensures { let a = stability_after_failure_scalar_def w.now s r d in
-        (result ≡ a.refusal) ×
-        (stability.new ≡ written a.refusal a.value stability.old) }
+    ensures { GivesSingle (stability_after_failure_scalar_def w.now s r d) result stability.old stability.new }
 {
     fsrs6::study::fsrs_stability_after_failure(w, s, r, d, stability)
 }
@@ -86,18 +73,14 @@ pub extern "C" fn fsrs_stability_short_term(
     rating: u32,
     stability: &mut f32,
 ) -> u32
-    ensures { let a = stability_short_term_scalar_def w.now s rating in
-        (result ≡ a.refusal) ×
-        (stability.new ≡ written a.refusal a.value stability.old) }
+    ensures { GivesSingle (stability_short_term_scalar_def w.now s rating) result stability.old stability.new }
 {
     fsrs6::study::fsrs_stability_short_term(w, s, rating, stability)
 }
 
 #[unsafe(no_mangle)]
 pub extern "C" fn fsrs_init_difficulty(w: &[f32], rating: u32, difficulty: &mut f32) -> u32
-    ensures { let a = init_difficulty_scalar_def w.now rating in
-        (result ≡ a.refusal) ×
-        (difficulty.new ≡ written a.refusal a.value difficulty.old) }
+    ensures { GivesSingle (init_difficulty_scalar_def w.now rating) result difficulty.old difficulty.new }
 {
     fsrs6::study::fsrs_init_difficulty(w, rating, difficulty)
 }
@@ -109,18 +92,14 @@ pub extern "C" fn fsrs_mean_reversion(
     current: f32,
     difficulty: &mut f32,
 ) -> u32
-    ensures { let a = mean_reversion_scalar_def w.now init current in
-        (result ≡ a.refusal) ×
-        (difficulty.new ≡ written a.refusal a.value difficulty.old) }
+    ensures { GivesSingle (mean_reversion_scalar_def w.now init current) result difficulty.old difficulty.new }
 {
     fsrs6::study::fsrs_mean_reversion(w, init, current, difficulty)
 }
 
 #[unsafe(no_mangle)]
 pub extern "C" fn fsrs_next_difficulty(w: &[f32], d: f32, rating: u32, difficulty: &mut f32) -> u32
-    ensures { let a = next_difficulty_scalar_def w.now d rating in
-        (result ≡ a.refusal) ×
-        (difficulty.new ≡ written a.refusal a.value difficulty.old) }
+    ensures { GivesSingle (next_difficulty_scalar_def w.now d rating) result difficulty.old difficulty.new }
 {
     fsrs6::study::fsrs_next_difficulty(w, d, rating, difficulty)
 }
@@ -135,10 +114,8 @@ pub extern "C" fn fsrs_next_state(
     next_stability: &mut f32,
     next_difficulty: &mut f32,
 ) -> u32
-    ensures { let a = next_state_scalar_def w.now (record { stability = stability; difficulty = difficulty }) delta_t rating in
-        (result ≡ a.refusal) ×
-        (next_stability.new ≡ written a.refusal a.state.stability next_stability.old) ×
-        (next_difficulty.new ≡ written a.refusal a.state.difficulty next_difficulty.old) }
+    ensures { GivesState (next_state_scalar_def w.now (state_of stability difficulty) delta_t rating) result
+        next_stability.old next_stability.new next_difficulty.old next_difficulty.new }
 {
     fsrs6::study::fsrs_next_state(
         w,
@@ -163,11 +140,8 @@ pub extern "C" fn fsrs_next_state_on(
     next_difficulty: &mut f32,
     next_seen: &mut u32,
 ) -> u32
-    ensures { let a = on_day_scalar w.now (record { state = record { stability = stability; difficulty = difficulty }; day = seen }) day rating in
-        (result ≡ a.refusal) ×
-        (next_stability.new ≡ written a.refusal a.seen.state.stability next_stability.old) ×
-        (next_difficulty.new ≡ written a.refusal a.seen.state.difficulty next_difficulty.old) ×
-        (next_seen.new ≡ written a.refusal a.seen.day next_seen.old) }
+    ensures { GivesSeen (on_day_scalar w.now (seen_of stability difficulty seen) day rating) result
+        next_stability.old next_stability.new next_difficulty.old next_difficulty.new next_seen.old next_seen.new }
 {
     fsrs6::study::fsrs_next_state_on(
         w,
@@ -195,11 +169,8 @@ pub extern "C" fn fsrs_check_row(
     interval: u32,
     verdict: &mut u32,
 ) -> u32
-    ensures { (let state : MemoryState = record { stability = stability; difficulty = difficulty } in
-        let claimed : Claimed = record { stability = stability_after; difficulty = difficulty_after; interval = interval } in
-        let a = row_check w.now state day rating retention claimed in
-        (result ≡ refusal_of_def a) ×
-        (verdict.new ≡ written (refusal_of_def a) (verdict_of_def a) verdict.old)) }
+    ensures { GivesVerdict (row_check w.now (state_of stability difficulty) day rating retention
+        (claimed_of stability_after difficulty_after interval)) result verdict.old verdict.new }
 {
     fsrs6::study::fsrs_check_row(
         w,
@@ -222,10 +193,7 @@ pub extern "C" fn fsrs_first_state(
     stability: &mut f32,
     difficulty: &mut f32,
 ) -> u32
-    ensures { let a = first_state_scalar_def w.now rating in
-        (result ≡ a.refusal) ×
-        (stability.new ≡ written a.refusal a.state.stability stability.old) ×
-        (difficulty.new ≡ written a.refusal a.state.difficulty difficulty.old) }
+    ensures { GivesState (first_state_scalar_def w.now rating) result stability.old stability.new difficulty.old difficulty.new }
 {
     fsrs6::study::fsrs_first_state(w, rating, stability, difficulty)
 }
@@ -239,10 +207,7 @@ pub extern "C" fn fsrs_memory_state_from_sm2(
     stability: &mut f32,
     difficulty: &mut f32,
 ) -> u32
-    ensures { let a = sm2_scalar w.now ease_factor interval sm2_retention in
-        (result ≡ a.refusal) ×
-        (stability.new ≡ written a.refusal a.state.stability stability.old) ×
-        (difficulty.new ≡ written a.refusal a.state.difficulty difficulty.old) }
+    ensures { GivesState (sm2_scalar w.now ease_factor interval sm2_retention) result stability.old stability.new difficulty.old difficulty.new }
 {
     fsrs6::study::fsrs_memory_state_from_sm2(
         w,

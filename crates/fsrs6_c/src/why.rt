@@ -1,16 +1,10 @@
-// Why a card moved, and why a loss call is refused and for which cell. Each answer is returned, and nothing is lent to be written.
+//! Why a card moved, and why a loss call is refused and for which cell. Each answer is returned, and nothing is lent to be written.
 ghost use Rattle.std.specs.Prelude.{◌≡◌};
 ghost use Rattle.checks.specs.Align.{align_of};
 ghost use Rattle.checks.specs.Batch.{prefixes_in_def, cards_in_def};
-ghost use Rattle.checks.specs.Refusals.{prefix_loss_fault, prefix_grad_fault, card_loss_fault_def, card_grad_fault};
-ghost use Rattle.columns.specs.Records.{room_def};
-ghost use Rattle.explain.specs.Step.{explain_def};
-ghost use Rattle.forward.specs.declared.state.State.{State};
-ghost use Rattle.fsrs6.specs.Why.{numbered};
+ghost use Rattle.fsrs6.specs.Why.{batch_fault, batch_grad_fault, card_fault, card_grad_fault, explained_step};
 
-use checks::fault::Fault;
-use forward::state::State;
-use fsrs6::why::ReasonNumbers;
+use fsrs6::why::{FaultNumbers, ReasonNumbers};
 
 #[unsafe(no_mangle)]
 pub extern "C" fn fsrs_explain_step(
@@ -21,7 +15,7 @@ pub extern "C" fn fsrs_explain_step(
     rating: f32,
     row: usize,
 ) -> ReasonNumbers
-    ensures { (let q : State = record { s = stability; d = difficulty } in result ≡ numbered (explain_def w.now q day rating row)) }
+    ensures { result ≡ explained_step w.now stability difficulty day rating row }
 {
     fsrs6::why::fsrs_explain_step(w, stability, difficulty, day, rating, row)
 }
@@ -38,8 +32,8 @@ pub extern "C" fn fsrs_batch_loss_fault(
     delta_ts: &[f32],
     labels: &[f32],
     weights: &[f32],
-) -> Fault
-    ensures { result ≡ prefix_loss_fault w.now (prefixes_in_def (align_of end) t_hist.now r_hist.now seq_len batch
+) -> FaultNumbers
+    ensures { result ≡ batch_fault w.now (prefixes_in_def (align_of end) t_hist.now r_hist.now seq_len batch
         seq_lens.now delta_ts.now labels.now weights.now) }
 {
     fsrs6::why::fsrs_batch_loss_fault(
@@ -61,9 +55,9 @@ pub extern "C" fn fsrs_batch_loss_and_grad_fault(
     weights: &[f32],
     gw_len: usize,
     records_len: usize,
-) -> Fault
-    ensures { result ≡ prefix_grad_fault w.now (prefixes_in_def (align_of end) t_hist.now r_hist.now seq_len batch
-        seq_lens.now delta_ts.now labels.now weights.now) gw_len (room_def records_len) }
+) -> FaultNumbers
+    ensures { result ≡ batch_grad_fault w.now (prefixes_in_def (align_of end) t_hist.now r_hist.now seq_len batch
+        seq_lens.now delta_ts.now labels.now weights.now) gw_len records_len }
 {
     fsrs6::why::fsrs_batch_loss_and_grad_fault(
         end,
@@ -92,8 +86,8 @@ pub extern "C" fn fsrs_card_loss_fault(
     seq_lens: &[u32],
     labels: &[f32],
     weights: &[f32],
-) -> Fault
-    ensures { result ≡ card_loss_fault_def w.now (cards_in_def (align_of end) t_hist.now r_hist.now seq_len batch
+) -> FaultNumbers
+    ensures { result ≡ card_fault w.now (cards_in_def (align_of end) t_hist.now r_hist.now seq_len batch
         seq_lens.now labels.now weights.now) }
 {
     fsrs6::why::fsrs_card_loss_fault(
@@ -115,9 +109,9 @@ pub extern "C" fn fsrs_card_loss_and_grad_fault(
     gw_len: usize,
     records_len: usize,
     step_grads_len: usize,
-) -> Fault
+) -> FaultNumbers
     ensures { result ≡ card_grad_fault w.now (cards_in_def (align_of end) t_hist.now r_hist.now seq_len batch
-        seq_lens.now labels.now weights.now) gw_len (room_def records_len) step_grads_len }
+        seq_lens.now labels.now weights.now) gw_len records_len step_grads_len }
 {
     fsrs6::why::fsrs_card_loss_and_grad_fault(
         end,

@@ -1,6 +1,6 @@
 -- What the proofs of ln share.
-mod Double
+pub mod Double
 pub mod One
-mod Single
-mod Value
-mod Whole
+pub mod Single
+pub mod Value
+pub mod Whole

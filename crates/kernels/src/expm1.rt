@@ -2,7 +2,7 @@
 ghost use Rattle.std.specs.Prelude.{◌≡◌};
 ghost use Rattle.kernels.specs.Kernels.{tiny, expm1_def};
 
-use crate::exp::exp_f64;
+use crate::exp::exp;
 use soft::narrow::narrow;
 
 // 2^-24
@@ -14,13 +14,13 @@ fn is_tiny(x: f32) -> bool
     -TINY < x && x < TINY
 }
 
-// Next to 0 the difference would lose the argument's digits, and below 2^-54 all of them.
+/// `exp(x) - 1`. Next to 0 the difference would lose the argument's digits, and below 2^-54 all of them.
 pub fn expm1_f32(x: f32) -> f32
     ensures { result ≡ expm1_def x }
 {
     if is_tiny(x) {
         return x;
     }
-    let y = exp_f64(std::num::f32_to_f64_with_nan(x));
+    let y = exp(f64::from(x));
     narrow(y - 1.0)
 }

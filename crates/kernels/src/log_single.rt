@@ -1,30 +1,34 @@
 // The logarithm of a single, in units of 2^-56, and of 2^-22 of a step. Every product fits one word.
-ghost use Rattle.std.specs.Prelude.{◌≡◌, ◌*◌, ◌^◌, ◌<◌, ◌≤◌, T, to_bits, unsigned_abs};
+ghost use Rattle.std.specs.Prelude.{◌≡◌, ◌+◌, ◌*◌, ◌^◌, ◌<◌, ◌≤◌, true, false, from_bits, unsigned_abs};
 ghost use Rattle.std.specs.Int.Signed.{mag};
 ghost use Rattle.std.specs.Float.{binary32};
-ghost use Rattle.std.specs.Float.Ieee.Positive.{positive};
+ghost use Rattle.std.specs.Float.Ieee.{round};
+ghost use Rattle.kernels.specs.Kernels.{nearest_of};
 ghost use Rattle.kernels.specs.Logarithm.{steps, gap63, low63, low22, cubic};
 ghost use Rattle.kernels.specs.inner.Logs.{log_of, step_log_of};
 ghost use Rattle.kernels.specs.inner.Single.{digits_of_def, place_of, index_of, step_log_at_def, log_at};
 
+use crate::binary::Positive;
+use soft::shifts::digits64;
 use table::entry_at;
 use table::index::index_at;
 
-// Whether x has a logarithm: neither a NaN, nor an infinity, nor 0, nor below it. The largest single is asked for, since
-// LLVM makes a slow test of a comparison with infinity.
-pub(crate) fn has_log_f32(x: f32) -> bool
-    ensures { result ≡ positive x }
-{
-    let most = f32::from_bits(0x7f7f_ffff);
-    0.0 < x && x <= most
+// 24 digits with the leading one, and that one's place.
+#[derive(Clone, Copy, Debug)]
+struct Digits {
+    m: u64,
+    k: i64,
+    ghost least: { 2 ^ 23 ≤ m },
+    ghost most: { m < 2 ^ 24 },
+    ghost few: { unsigned_abs k ≤ 149 },
 }
 
 // How far m, of 24 digits, lies below the entry i, in units of 2^-63 of it.
-fn gap_of(m: u64, i: u64) -> u64
-    requires { (2 ^ 23 ≤ m) × (m < 2 ^ 24) × (i ≡ index_of m) }
-    ensures { (result ≡ gap63 i m) × (result * 2560 ≤ 12 * 2 ^ 63) }
+fn gap_of(d: Digits, i: u64) -> u64
+    requires { i ≡ index_of d.m }
+    ensures { (result ≡ gap63 i d.m) × (result * 2560 ≤ 12 * 2 ^ 63) }
 {
-    let p = m * (entry_at(256 - i) >> 23);
+    let p = d.m * (entry_at(256 - i) >> 23);
     0x8000_0000_0000_0000 - p
 }
 
@@ -67,24 +71,22 @@ fn steps_of(k: i64, i: u64) -> i64
 }
 
 // ln(m / 2^23 * 2^k) in units of 2^-22 of a step.
-fn step_log_at(m: u64, k: i64) -> i64
-    requires { (2 ^ 23 ≤ m) × (m < 2 ^ 24) × (unsigned_abs k ≤ 149) }
-    ensures { (result ≡ step_log_at_def m k) × (mag result < 2 ^ 38) }
+fn step_log_at(d: Digits) -> i64
+    ensures { (result ≡ step_log_at_def d.m d.k) × (mag result < 2 ^ 38) }
 {
-    let i = index_at(m >> 14);
-    let l = below_steps(gap_of(m, i));
-    let j = steps_of(k, i) * 0x40_0000;
+    let i = index_at(d.m >> 14);
+    let l = below_steps(gap_of(d, i));
+    let j = steps_of(d.k, i) * 0x40_0000;
     j - l as i64
 }
 
 // The same in units of 2^-56, but for the numbers next to 1.
-fn log_at(m: u64, k: i64) -> i64
-    requires { (2 ^ 23 ≤ m) × (m < 2 ^ 24) × (unsigned_abs k ≤ 149) }
-    ensures { (result ≡ log_at m k) × (unsigned_abs result < 2 ^ 63) }
+fn log_at(d: Digits) -> i64
+    ensures { (result ≡ log_at d.m d.k) × (unsigned_abs result < 2 ^ 63) }
 {
-    let i = index_at(m >> 14);
-    let l = below_ln(gap_of(m, i));
-    let j = steps_of(k, i) * 0xb172_17f7_d1cf;
+    let i = index_at(d.m >> 14);
+    let l = below_ln(gap_of(d, i));
+    let j = steps_of(d.k, i) * 0xb172_17f7_d1cf;
     j - (l >> 7) as i64
 }
 
@@ -101,62 +103,72 @@ fn log_one(n: u64) -> i64
     s as i64 - t as i64
 }
 
-// 24 digits with the leading one, and that one's place.
-#[derive(Clone, Copy)]
-struct Digits {
-    m: u64,
-    k: i64,
-}
-
 // A subnormal single is a normal double: these are the digits of any.
-fn small(x: f32) -> Digits
-    requires { T (positive x) }
-    ensures { (result.m ≡ digits_of_def x) × (result.k ≡ place_of x) }
+fn small(x: Positive<f32>) -> Digits
+    ensures { (result.m ≡ digits_of_def x.number) × (result.k ≡ place_of x.number) }
 {
-    let b = f64::to_bits(std::num::f32_to_f64_with_nan(x));
+    let b = f64::from(x.number).to_bits();
     let m = (0x10_0000_0000_0000 + b % 0x10_0000_0000_0000) >> 29;
     let k = (b >> 52) as i64 - 1023;
     Digits { m, k }
 }
 
-fn step_log_small(x: f32) -> i64
-    requires { T (positive x) }
-    ensures { (result ≡ step_log_of binary32 x) × (mag result < 2 ^ 38) }
+// A normal x has its digits and its exponent in its pattern.
+fn digits_of(x: Positive<f32>) -> Digits
+    ensures { (result.m ≡ digits_of_def x.number) × (result.k ≡ place_of x.number) }
 {
-    let d = small(x);
-    step_log_at(d.m, d.k)
-}
-
-pub(crate) fn step_log_f32(x: f32) -> i64
-    requires { T (positive x) }
-    ensures { (result ≡ step_log_of binary32 x) × (mag result < 2 ^ 38) }
-{
-    let b = f32::to_bits(x) as u64;
+    let b = x.number.to_bits() as u64;
     if b < 0x80_0000 {
-        return step_log_small(x);
+        return small(x);
     }
-    step_log_at(0x80_0000 + b % 0x80_0000, (b >> 23) as i64 - 127)
+    let m = 0x80_0000 + b % 0x80_0000;
+    let k = (b >> 23) as i64 - 127;
+    Digits { m, k }
 }
 
-// x is below the normal range.
-fn log_small(x: f32) -> i64
-    requires { T (positive x) × (to_bits binary32 x < 2 ^ 23) }
-    ensures { (result ≡ log_of binary32 x) × (unsigned_abs result < 2 ^ 63) }
+pub(crate) fn step_log(x: Positive<f32>) -> i64
+    ensures { (result ≡ step_log_of binary32 x.number) × (mag result < 2 ^ 38) }
 {
-    let d = small(x);
-    log_at(d.m, d.k)
+    let d = digits_of(x);
+    step_log_at(d)
 }
 
-pub(crate) fn log_f32(x: f32) -> i64
-    requires { T (positive x) }
-    ensures { (result ≡ log_of binary32 x) × (unsigned_abs result < 2 ^ 63) }
+pub(crate) fn log(x: Positive<f32>) -> i64
+    ensures { (result ≡ log_of binary32 x.number) × (unsigned_abs result < 2 ^ 63) }
 {
-    let b = f32::to_bits(x) as u64;
+    let b = x.number.to_bits() as u64;
     if b >> 14 == 0xfe00 {
         return log_one(b % 0x4000);
     }
-    if b < 0x80_0000 {
-        return log_small(x);
+    let d = digits_of(x);
+    log_at(d)
+}
+
+// ---- the nearest single
+
+// The pattern, below the sign, of the nearest single to a / 2^56. The smallest a is a normal single's, and 39 of the 63 digits
+// are lost: no case is left to test.
+fn bits(a: u64) -> u64
+    requires { (0 < a) × (a < 2 ^ 63) }
+    ensures { (from_bits binary32 result ≡ round binary32 false a (2 ^ 56)) × (from_bits binary32 (2 ^ 31 + result) ≡ round binary32 true a (2 ^ 56)) × (result ≤ 134 * 2 ^ 23) }
+{
+    let z = digits64(a);
+    let n = a << (63 - z);
+    let q = (n + 0x3f_ffff_ffff + (n >> 39) % 2) >> 39;
+    (z + 69) * 0x80_0000 + q
+}
+
+// The nearest single to s / 2^56.
+pub(crate) fn nearest(s: i64) -> f32
+    requires { unsigned_abs s < 2 ^ 63 }
+    ensures { result ≡ nearest_of binary32 s 56 }
+{
+    if s == 0 {
+        return 0.0;
     }
-    log_at(0x80_0000 + b % 0x80_0000, (b >> 23) as i64 - 127)
+    let b = bits(s.unsigned_abs());
+    if s < 0 {
+        return f32::from_bits((0x8000_0000 + b) as u32);
+    }
+    f32::from_bits(b as u32)
 }

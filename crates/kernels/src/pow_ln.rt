@@ -3,11 +3,14 @@ ghost use Rattle.std.specs.Prelude.{◌≡◌};
 ghost use Rattle.std.specs.Float.{binary64};
 ghost use Rattle.kernels.specs.Kernels.{ln_def, pow_def};
 
-use crate::ln::{ln_f64, nearest_f64};
-use crate::log_double::{has_log_f64, log_f64};
-use crate::pow::{in_range_f64, pow_f64, raised_f64};
+use crate::binary::{Exponent, Positive};
+use crate::ln::ln;
+use crate::log_double::{log, nearest};
+use crate::pow::pow;
+use crate::pow_double::raised;
 
-#[derive(Clone, Copy)]
+/// A power and the logarithm of its base.
+#[derive(Clone, Copy, Debug, PartialEq)]
 pub struct PowLn {
     pub pow: f64,
     pub ln: f64,
@@ -17,26 +20,26 @@ pub struct PowLn {
 fn apart(x: f64, y: f64) -> PowLn
     ensures { result ≡ record { pow = pow_def binary64 x y; ln = ln_def binary64 x } }
 {
-    let pow = pow_f64(x, y);
-    let ln = ln_f64(x);
+    let pow = pow(x, y);
+    let ln = ln(x);
     PowLn { pow, ln }
 }
 
-// pow_f64(x, y) and ln_f64(x), for less than the two of them.
+/// `pow(x, y)` and `ln(x)`, for less than the two of them.
 pub fn pow_ln_f64(x: f64, y: f64) -> PowLn
     ensures { result ≡ record { pow = pow_def binary64 x y; ln = ln_def binary64 x } }
 {
-    if !has_log_f64(x) {
+    let Some(base) = Positive::new(x) else {
+        return apart(x, y);
+    };
+    let Some(exponent) = Exponent::new(y) else {
+        return apart(x, y);
+    };
+    if x.to_bits() == 0x3ff0_0000_0000_0000 {
         return apart(x, y);
     }
-    if !in_range_f64(y) {
-        return apart(x, y);
-    }
-    if f64::to_bits(x) == 0x3ff0_0000_0000_0000 {
-        return apart(x, y);
-    }
-    let g = log_f64(x);
-    let ln = nearest_f64(g.j, g.l);
-    let pow = raised_f64(g.j, g.l, y);
+    let g = log(base);
+    let ln = nearest(g);
+    let pow = raised(g, exponent);
     PowLn { pow, ln }
 }

@@ -1,35 +1,16 @@
 // Whole numbers of either sign.
-ghost use Rattle.std.specs.Prelude.{◌≡◌, ◌^◌, ◌<◌, unsigned_abs};
+ghost use Rattle.std.specs.Prelude.{◌≡◌, ◌^◌, ◌<◌};
 ghost use Rattle.table.specs.Whole as Whole;
 ghost use Rattle.kernels.specs.inner.Power.{Split};
 
-pub(crate) fn magnitude(z: i64) -> u64
-    requires { unsigned_abs z < 2 ^ 63 }
-    ensures { result ≡ unsigned_abs z }
-{
-    if z < 0 {
-        let n = -z;
-        return n as u64;
-    }
-    z as u64
-}
+use crate::parts::Parts;
 
 pub(crate) fn signed(negative: bool, n: u64) -> i64
     requires { n < 2 ^ 63 }
     ensures { result ≡ Whole.signed negative n }
 {
     let z = n as i64;
-    if negative {
-        return -z;
-    }
-    z
-}
-
-#[derive(Clone, Copy)]
-pub(crate) struct Parts {
-    pub k: i64,
-    pub i: u64,
-    pub f: u64,
+    if negative { -z } else { z }
 }
 
 // A number of 2^52 units to a factor of 2, 2^44 to a step: a shift rounds down, so that no part but k is negative.

@@ -1,3 +1,5 @@
 -- Laws of the definitions.
+pub mod Answering
+pub mod Known
 pub mod Picked
 pub mod Verdicts

@@ -10,9 +10,8 @@ use Rattle.model_v6.specs.Difficulty.{init_difficulty_def, mean_reversion_def, n
 use Rattle.model_v6.specs.NextState.{next_state_def, first_state_def}
 use Rattle.model_v6.specs.Sm2.{sm2_raw}
 use Rattle.model_v6.specs.Stability.{stability_after_success_def, stability_after_failure_def, stability_short_term_def}
-use Rattle.model_v6.specs.declared.answers.Scalar.{Scalar}
+use Rattle.model_v6.specs.Results.{Scalar, NextState, no_memory}
 use Rattle.model_v6.specs.declared.state.MemoryState.{MemoryState}
-use Rattle.model_v6.specs.declared.state.NextState.{NextState}
 
 -- the order 1, 2, 13
 unfoldable pub scalar_refusal_def : (w : List Float) (good : Bool) → ℕ
@@ -27,9 +26,6 @@ accepted x = record { refusal = 0; value = x }
 -- x, for weights w inside the box and good arguments
 unfoldable pub scalar_def : (w : List Float) (good : Bool) (x : Float) → Scalar
 scalar_def w good x = cond (scalar_refusal_def w good == 0) (accepted x) (refused (scalar_refusal_def w good))
-
-abbrev pub no_memory : MemoryState
-no_memory = record { stability = zero32; difficulty = zero32 }
 
 abbrev pub refused_state_def : ℕ → NextState
 refused_state_def n = record { refusal = n; state = no_memory }

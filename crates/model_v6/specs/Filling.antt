@@ -5,7 +5,7 @@ use Rattle.domain.specs.Limits.{zero32, half, one, two, three}
 use Rattle.domain.specs.Weights.{◌!◌, FSRS6_DEFAULT_PARAMETERS, boxed, all_finite_def}
 use Rattle.kernels.specs.Calls.{ln32}
 use Rattle.model_v6.specs.Curve.{mul-add}
-use Rattle.model_v6.specs.declared.filling.Filled.{Filled}
+use Rattle.model_v6.specs.Results.{Filled}
 
 abbrev pub fsrs5_default_decay : Float
 fsrs5_default_decay = half

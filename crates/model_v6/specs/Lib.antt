@@ -3,7 +3,9 @@ pub mod Curve
 pub mod Difficulty
 pub mod Filling
 pub mod NextState
+pub mod Results
 pub mod Rows
 pub mod Seen
 pub mod Sm2
 pub mod Stability
+pub mod Verdicts

@@ -9,9 +9,13 @@ use Rattle.model_v6.specs.NextState.{next_state_def}
 use Rattle.model_v6.specs.declared.rows.Claimed.{Claimed}
 use Rattle.model_v6.specs.declared.rows.Field.{Field}
 use Rattle.model_v6.specs.declared.rows.Field.TheVariants.{Stability, Difficulty, Interval}
-use Rattle.model_v6.specs.declared.rows.RowCheck.{RowCheck}
-use Rattle.model_v6.specs.declared.rows.RowCheck.TheVariants.{Refused, Accepted, Wrong}
 use Rattle.model_v6.specs.declared.state.MemoryState.{MemoryState}
+
+-- what a row is held to be: refused, by a number, or judged. Wrong: the first field that has not our bits. A refused row has no verdict
+pub data RowCheck : Type 0 where
+  Refused : ℕ → RowCheck
+  Accepted : RowCheck
+  Wrong : Field → RowCheck
 
 -- 'state after and next interval at a stated retention', by 'our scalar formulas': the bits of next_state_scalar, and of next_interval_scalar from the
 -- stability that it gives

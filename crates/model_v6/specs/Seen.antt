@@ -3,7 +3,7 @@ use Rattle.std.specs.Prelude.{ℕ, ◌-◌, Bool, cond, ◌&&◌, List, ◌==◌
 use Rattle.model_v6.specs.Answers.{scalar_refusal_def, finite_memory}
 use Rattle.model_v6.specs.NextState.{next_state_def}
 use Rattle.model_v6.specs.Stability.{as_f32}
-use Rattle.model_v6.specs.declared.seen.NextSeen.{NextSeen}
+use Rattle.model_v6.specs.Results.{NextSeen}
 use Rattle.model_v6.specs.declared.seen.Seen.{Seen}
 
 -- 'a whole day number, 0 to 100000'

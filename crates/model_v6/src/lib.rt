@@ -1,6 +1,6 @@
 // model_v6.rs and inference_v6.rs: what a study screen calls. The public functions have the names and the order of operations
-// of the Rust; `first_state_scalar` is change request K11's, `next_state_on_scalar` K2's and `check_row` K9's. Each takes the weights as a lent slice, checks for itself, and
-// gives a refusal's number beside its answer.
+// of the Rust, and `first_state_scalar`, `next_state_on_scalar` and `check_row` stand beside them. Each takes the weights as a lent
+// slice and checks for itself.
 #![tactic(auto)]
 
 pub mod answers;

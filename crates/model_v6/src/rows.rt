@@ -1,88 +1,99 @@
 // A review that an app has worked out for itself, held to our formulas, with its checks.
-ghost use Rattle.std.specs.Prelude.{◌≡◌, to_bits};
-ghost use Rattle.std.specs.Float.{binary32};
-ghost use Rattle.model_v6.specs.Rows.{ours_def, verdict_def, row_refusal_def, row_check, refusal_of_def, field_number_def, verdict_of_def};
+ghost use Rattle.std.specs.Prelude.{◌≡◌};
+ghost use Rattle.model_v6.specs.Rows.{ours_def, verdict_def, row_check, field_number_def, verdict_of_def};
+ghost use Rattle.model_v6.specs.Verdicts.{judged, row_answered};
 
-use crate::answers::scalar_refusal;
+use crate::answers::check_argument;
 use crate::formulas::curve::next_interval;
 use crate::formulas::state::next_state;
 use crate::state::{MemoryState, is_finite_state};
 use domain::floats::is_finite;
 use domain::limits::is_day;
-use domain::weights::copy_weights;
-use soft::flags::both;
+use domain::refusal::Refusal;
+use domain::weights::Weights;
+use std::num::f32_to_bits_with_nan;
 
-// The state after a review and the interval from it, as the bits of singles: so a claimed NaN keeps its payload, and a zero
-// its sign.
-#[derive(Clone, Copy)]
+/// The state after a review and the interval from it, as the bits of singles: so a claimed NaN keeps its payload, and a zero
+/// its sign.
+#[derive(Clone, Copy, Debug, PartialEq, Eq, Hash)]
 pub struct Claimed {
     pub stability: u32,
     pub difficulty: u32,
     pub interval: u32,
 }
 
-#[derive(Clone, Copy)]
+/// A field of a claim, by its number.
+#[derive(Clone, Copy, Debug, PartialEq, Eq, Hash)]
 pub enum Field {
-    Stability,
-    Difficulty,
-    Interval,
+    Stability = 1,
+    Difficulty = 2,
+    Interval = 3,
 }
 
-// Wrong: the first field that has not our bits. A refused row has no verdict.
-#[derive(Clone, Copy)]
-pub enum RowCheck {
-    Refused(u32),
+impl Field {
+    #[tactic(auto, unfolding(crate::specs::Rows::field_number_def))]
+    pub fn number(self) -> u32
+        ensures { result ≡ field_number_def self }
+    {
+        self as u32
+    }
+}
+
+/// What a claim is found to be; `Wrong` has the first field that has not our bits.
+#[derive(Clone, Copy, Debug, PartialEq, Eq, Hash)]
+pub enum Verdict {
     Accepted,
     Wrong(Field),
 }
 
-// x's bit pattern; that of a NaN is 0x7fc0_0000.
-fn pattern(x: f32) -> u32
-    ensures { result ≡ to_bits binary32 x }
-{
-    if x != x {
-        return 0x7fc0_0000;
+impl Verdict {
+    /// 0 where the claim is accepted, else the first wrong field's number, 1 to 3.
+    #[tactic(auto, unfolding(crate::specs::Rows::verdict_of_def))]
+    pub fn number(self) -> u32
+        ensures { result ≡ verdict_of_def (judged self) }
+    {
+        // Stays: the C interface has 0 for a row that is accepted, and a field's number where it is wrong.
+        match self {
+            Verdict::Accepted => 0,
+            Verdict::Wrong(field) => field.number(),
+        }
     }
-    f32::to_bits(x)
 }
 
-// What our formulas give. The interval is worked from the stability after the review.
+/// What our formulas give. The interval is worked from the stability after the review. A NaN has the pattern 0x7fc0_0000.
+#[tactic(auto, unfolding(crate::specs::Rows::ours_def))]
 fn ours(w: &[f32; 21], state: MemoryState, day: f32, rating: u32, retention: f32) -> Claimed
     ensures { result ≡ ours_def w.now state day rating retention }
 {
     let after = next_state(w, state, day, rating);
     let interval = next_interval(w, after.stability, retention);
     Claimed {
-        stability: pattern(after.stability),
-        difficulty: pattern(after.difficulty),
-        interval: pattern(interval),
+        stability: f32_to_bits_with_nan(after.stability),
+        difficulty: f32_to_bits_with_nan(after.difficulty),
+        interval: f32_to_bits_with_nan(interval),
     }
 }
 
-fn verdict(claimed: Claimed, ours: Claimed) -> RowCheck
-    ensures { result ≡ verdict_def claimed ours }
+#[tactic(auto, unfolding(crate::specs::Rows::verdict_def))]
+fn judge(claimed: Claimed, ours: Claimed) -> Verdict
+    ensures { judged result ≡ verdict_def claimed ours }
 {
     if claimed.stability != ours.stability {
-        return RowCheck::Wrong(Field::Stability);
+        return Verdict::Wrong(Field::Stability);
     }
     if claimed.difficulty != ours.difficulty {
-        return RowCheck::Wrong(Field::Difficulty);
+        return Verdict::Wrong(Field::Difficulty);
     }
     if claimed.interval != ours.interval {
-        return RowCheck::Wrong(Field::Interval);
+        return Verdict::Wrong(Field::Interval);
     }
-    RowCheck::Accepted
+    Verdict::Accepted
 }
 
-fn row_refusal(w: &[f32], state: MemoryState, day: f32, retention: f32) -> u32
-    ensures { result ≡ row_refusal_def w.now state day retention }
-{
-    let step = both(is_finite_state(state), is_day(day));
-    scalar_refusal(w, both(step, is_finite(retention)))
-}
-
-// Whether the claimed bits are those of `next_state_scalar`, `day` days after the last review, and of `next_interval_scalar` at
-// the retention, and if not, which field is the first that differs.
+/// Whether the claimed bits are those of `next_state_scalar`, `day` days after the last review, and of `next_interval_scalar` at
+/// the retention, and if not, which field is the first that differs. Refused are the weights (1, 2), and a state, day or
+/// retention that is not finite or out of range (13); the claimed values may be any bits.
+#[tactic(auto, using(crate::proofs::rows::Answering::row))]
 pub fn check_row(
     w: &[f32],
     state: MemoryState,
@@ -90,46 +101,10 @@ pub fn check_row(
     rating: u32,
     retention: f32,
     claimed: Claimed,
-) -> RowCheck
-    ensures { result ≡ row_check w.now state day rating retention claimed }
+) -> Result<Verdict, Refusal>
+    ensures { row_answered result ≡ row_check w.now state day rating retention claimed }
 {
-    let n = row_refusal(w, state, day, retention);
-    if n != 0 {
-        return RowCheck::Refused(n);
-    }
-    let v = copy_weights(w);
-    let right = ours(&v, state, day, rating, retention);
-    verdict(claimed, right)
-}
-
-// The number of a refusal, 0 where there is none.
-pub fn refusal_of(check: RowCheck) -> u32
-    ensures { result ≡ refusal_of_def check }
-{
-    match check {
-        RowCheck::Refused(n) => n,
-        RowCheck::Accepted => 0,
-        RowCheck::Wrong(_) => 0,
-    }
-}
-
-fn field_number(field: Field) -> u32
-    ensures { result ≡ field_number_def field }
-{
-    match field {
-        Field::Stability => 1,
-        Field::Difficulty => 2,
-        Field::Interval => 3,
-    }
-}
-
-// The number of a verdict: 0 where the row is accepted, else the first wrong field's, 1 to 3.
-pub fn verdict_of(check: RowCheck) -> u32
-    ensures { result ≡ verdict_of_def check }
-{
-    match check {
-        RowCheck::Refused(_) => 0,
-        RowCheck::Accepted => 0,
-        RowCheck::Wrong(field) => field_number(field),
-    }
+    let w = Weights::try_from(w)?;
+    check_argument(is_finite_state(state) & is_day(day) & is_finite(retention))?;
+    Ok(judge(claimed, ours(&w.values, state, day, rating, retention)))
 }

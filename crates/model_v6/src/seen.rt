@@ -1,27 +1,22 @@
 // A review on a day, of a state that carries the day when its card was last seen, with its checks.
-ghost use Rattle.std.specs.Prelude.{◌≡◌};
+ghost use Rattle.std.specs.Prelude.{◌≡◌, IfOk};
+ghost use Rattle.domain.specs.Refusals.{number_of};
+ghost use Rattle.model_v6.specs.Results.{seen_answered};
 ghost use Rattle.model_v6.specs.Seen.{day_number_good, on_day_refusal_def, on_day_scalar};
 
-use crate::answers::scalar_refusal;
+use crate::answers::check_argument;
 use crate::formulas::state::next_state;
 use crate::state::{MemoryState, is_finite_state};
-use domain::weights::copy_weights;
-use soft::flags::both;
+use domain::refusal::{Refusal, Refused};
+use domain::weights::Weights;
 
 const DAY_NUMBER_MAX: u32 = 100000;
 
-// A card's state, and the number of the day when it was last seen.
-#[derive(Clone, Copy)]
+/// A card's state, and the number of the day when it was last seen.
+#[derive(Clone, Copy, Debug, PartialEq)]
 pub struct Seen {
     pub state: MemoryState,
     pub day: u32,
-}
-
-// The number of a refusal, 0 where there is none, and the state after the review, or the one that was given.
-#[derive(Clone, Copy)]
-pub struct NextSeen {
-    pub refusal: u32,
-    pub seen: Seen,
 }
 
 fn is_day_number(day: u32) -> bool
@@ -30,35 +25,38 @@ fn is_day_number(day: u32) -> bool
     day <= DAY_NUMBER_MAX
 }
 
-// 15 comes last, so that the days of its test are day numbers.
-fn on_day_refusal(w: &[f32], seen: Seen, day: u32) -> u32
-    ensures { result ≡ on_day_refusal_def w.now seen day }
+/// 15 comes last, so that the days of its test are day numbers.
+#[tactic(auto, using(crate::proofs::seen::Answering::checks))]
+fn check_day(w: &[f32], seen: Seen, day: u32) -> Result<Weights, Refusal>
+    ensures refusal { number_of result ≡ on_day_refusal_def w.now seen day }
+    ensures weights { IfOk result (λ v. v.values ≡ w.now) }
 {
-    let days = both(is_day_number(seen.day), is_day_number(day));
-    let n = scalar_refusal(w, both(is_finite_state(seen.state), days));
-    if n != 0 {
-        return n;
-    }
+    let days = is_day_number(seen.day) & is_day_number(day);
+    let w = Weights::try_from(w)?;
+    check_argument(is_finite_state(seen.state) & days)?;
     if day < seen.day {
-        return 15;
+        return Err(Refusal::Earlier);
     }
-    0
+    Ok(w)
 }
 
-// The state after a review on `day`, which it then carries. The difference of two day numbers is exact as a single.
-pub fn next_state_on_scalar(w: &[f32], seen: Seen, day: u32, rating: u32) -> NextSeen
-    ensures { result ≡ on_day_scalar w.now seen day rating }
+/// The state after a review on `day`, which it then carries. The difference of two day numbers is exact as a single. A refused
+/// step hands back the state that it was given: 1, 2 and 13 as in `next_state_scalar`, the day numbers among the arguments, and 15
+/// where `day` is before the one that the state carries.
+#[tactic(auto, using(crate::proofs::seen::Answering::on_day))]
+pub fn next_state_on_scalar(
+    w: &[f32],
+    seen: Seen,
+    day: u32,
+    rating: u32,
+) -> Result<Seen, Refused<Seen>>
+    ensures { seen_answered result ≡ on_day_scalar w.now seen day rating }
 {
-    let n = on_day_refusal(w, seen, day);
-    if n != 0 {
-        return NextSeen { refusal: n, seen };
-    }
-    let v = copy_weights(w);
+    let w = check_day(w, seen, day).map_err(|refusal| Refused {
+        refusal,
+        given: seen,
+    })?;
     let elapsed = std::num::nearest_u32_to_f32(day - seen.day);
-    let state = next_state(&v, seen.state, elapsed, rating);
-    let after = Seen { state, day };
-    NextSeen {
-        refusal: 0,
-        seen: after,
-    }
+    let state = next_state(&w.values, seen.state, elapsed, rating);
+    Ok(Seen { state, day })
 }

@@ -1,8 +1,11 @@
 -- One outcome: weight sets and the study screen's formulas. A line for each function: its answer, then each parameter in turn. Assumes nothing.
-use Rattle.outcomes.specs.Outcome.{One, one}
+use mathlib.Core.Path.{refl}
+use denote.RattleType.{RattleType}
+use denote.Param.Laws.{Laws, IsCopy}
+use mir.Syntax.{Dict}
+use Rattle.std.specs.declared.clone.Clone
+use Rattle.outcomes.specs.Outcome.{One, one, one_by}
 use Rattle.outcomes.proofs.Tuples.{◌⨾◌, none, end}
-use Rattle.soft.proofs.flags.both
-use Rattle.domain.proofs.floats.choose
 use Rattle.domain.proofs.floats.clamp
 use Rattle.domain.proofs.floats.max
 use Rattle.domain.proofs.floats.min
@@ -16,7 +19,14 @@ use Rattle.domain.proofs.difficulty.clamp_difficulty
 use Rattle.domain.proofs.limits.is_stability
 use Rattle.domain.proofs.difficulty.is_difficulty
 use Rattle.domain.proofs.limits.is_day
-use Rattle.domain.proofs.weights.weights_refusal
+use Rattle.domain.proofs.Refusals.{same_answer, taken_one}
+use Rattle.domain.proofs.refusal.Refusal.number
+use Rattle.domain.proofs.refusal.U32FromRefusal.from
+use Rattle.domain.proofs.refusal.RefusalFromRefused.from as refused_from
+use Rattle.domain.proofs.refusal.number_of
+use Rattle.domain.proofs.weights.check_weights
+use Rattle.domain.proofs.weights.WeightsTryFromRefSliceF32.try_from
+use Rattle.model_v6.proofs.Results.{answered_one, state_answered_one, step_answered_one, seen_answered_one, filled_answered_one, row_answered_one}
 use Rattle.domain.proofs.weights.copy_weights
 use Rattle.domain.proofs.defaults.all_finite
 use Rattle.domain.proofs.defaults.default_weights
@@ -33,18 +43,11 @@ use Rattle.model_v6.proofs.state.next_state_scalar
 use Rattle.model_v6.proofs.state.first_state_scalar
 use Rattle.model_v6.proofs.seen.next_state_on_scalar
 use Rattle.model_v6.proofs.rows.check_row
-use Rattle.model_v6.proofs.rows.refusal_of
-use Rattle.model_v6.proofs.rows.verdict_of
+use Rattle.model_v6.proofs.rows.Field.number as field_number
+use Rattle.model_v6.proofs.rows.Verdict.number as verdict_number
 use Rattle.model_v6.proofs.sm2.memory_state_from_sm2_scalar
 
--- soft::flags
-pub one_both : One both.Kinds.ps both.Kinds.r both.Reads.Post
-one_both = one (λ κs a o c. c ⨾ none ⨾ none ⨾ end)
-
 -- domain::floats
-pub one_choose : One choose.Kinds.ps choose.Kinds.r choose.Reads.Post
-one_choose = one (λ κs a o c. c ⨾ none ⨾ none ⨾ none ⨾ end)
-
 pub one_clamp : One clamp.Kinds.ps clamp.Kinds.r clamp.Reads.Post
 one_clamp = one (λ κs a o c. c ⨾ none ⨾ none ⨾ none ⨾ end)
 
@@ -91,9 +94,6 @@ pub one_is_day : One is_day.Kinds.ps is_day.Kinds.r is_day.Reads.Post
 one_is_day = one (λ κs a o c. c ⨾ none ⨾ end)
 
 -- domain::weights
-pub one_weights_refusal : One weights_refusal.Kinds.ps weights_refusal.Kinds.r weights_refusal.Reads.Post
-one_weights_refusal = one (λ κs a o c. c ⨾ none ⨾ end)
-
 pub one_copy_weights : One copy_weights.Kinds.ps copy_weights.Kinds.r copy_weights.Reads.Post
 one_copy_weights = one (λ κs a o c. c ⨾ none ⨾ end)
 
@@ -106,56 +106,77 @@ one_default_weights = one (λ κs a o c. c ⨾ end)
 
 -- model_v6::filling
 pub one_check_and_fill_parameters_fsrs6 : One check_and_fill_parameters_fsrs6.Kinds.ps check_and_fill_parameters_fsrs6.Kinds.r check_and_fill_parameters_fsrs6.Reads.Post
-one_check_and_fill_parameters_fsrs6 = one (λ κs a o c. c ⨾ none ⨾ end)
+one_check_and_fill_parameters_fsrs6 = one_by (λ κs. filled_answered_one) (λ κs a o c. c ⨾ none ⨾ end)
 
 -- model_v6::curve
 pub one_power_forgetting_curve_scalar : One power_forgetting_curve_scalar.Kinds.ps power_forgetting_curve_scalar.Kinds.r power_forgetting_curve_scalar.Reads.Post
-one_power_forgetting_curve_scalar = one (λ κs a o c. c ⨾ none ⨾ none ⨾ none ⨾ end)
+one_power_forgetting_curve_scalar = one_by (λ κs. answered_one) (λ κs a o c. c ⨾ none ⨾ none ⨾ none ⨾ end)
 
 pub one_next_interval_scalar : One next_interval_scalar.Kinds.ps next_interval_scalar.Kinds.r next_interval_scalar.Reads.Post
-one_next_interval_scalar = one (λ κs a o c. c ⨾ none ⨾ none ⨾ none ⨾ end)
+one_next_interval_scalar = one_by (λ κs. answered_one) (λ κs a o c. c ⨾ none ⨾ none ⨾ none ⨾ end)
 
 -- model_v6::difficulty
 pub one_init_difficulty_scalar : One init_difficulty_scalar.Kinds.ps init_difficulty_scalar.Kinds.r init_difficulty_scalar.Reads.Post
-one_init_difficulty_scalar = one (λ κs a o c. c ⨾ none ⨾ none ⨾ end)
+one_init_difficulty_scalar = one_by (λ κs. answered_one) (λ κs a o c. c ⨾ none ⨾ none ⨾ end)
 
 pub one_mean_reversion_scalar : One mean_reversion_scalar.Kinds.ps mean_reversion_scalar.Kinds.r mean_reversion_scalar.Reads.Post
-one_mean_reversion_scalar = one (λ κs a o c. c ⨾ none ⨾ none ⨾ none ⨾ end)
+one_mean_reversion_scalar = one_by (λ κs. answered_one) (λ κs a o c. c ⨾ none ⨾ none ⨾ none ⨾ end)
 
 pub one_next_difficulty_scalar : One next_difficulty_scalar.Kinds.ps next_difficulty_scalar.Kinds.r next_difficulty_scalar.Reads.Post
-one_next_difficulty_scalar = one (λ κs a o c. c ⨾ none ⨾ none ⨾ none ⨾ end)
+one_next_difficulty_scalar = one_by (λ κs. answered_one) (λ κs a o c. c ⨾ none ⨾ none ⨾ none ⨾ end)
 
 -- model_v6::stability
 pub one_stability_after_success_scalar : One stability_after_success_scalar.Kinds.ps stability_after_success_scalar.Kinds.r stability_after_success_scalar.Reads.Post
-one_stability_after_success_scalar = one (λ κs a o c. c ⨾ none ⨾ none ⨾ none ⨾ none ⨾ none ⨾ end)
+one_stability_after_success_scalar = one_by (λ κs. answered_one) (λ κs a o c. c ⨾ none ⨾ none ⨾ none ⨾ none ⨾ none ⨾ end)
 
 pub one_stability_after_failure_scalar : One stability_after_failure_scalar.Kinds.ps stability_after_failure_scalar.Kinds.r stability_after_failure_scalar.Reads.Post
-one_stability_after_failure_scalar = one (λ κs a o c. c ⨾ none ⨾ none ⨾ none ⨾ none ⨾ end)
+one_stability_after_failure_scalar = one_by (λ κs. answered_one) (λ κs a o c. c ⨾ none ⨾ none ⨾ none ⨾ none ⨾ end)
 
 pub one_stability_short_term_scalar : One stability_short_term_scalar.Kinds.ps stability_short_term_scalar.Kinds.r stability_short_term_scalar.Reads.Post
-one_stability_short_term_scalar = one (λ κs a o c. c ⨾ none ⨾ none ⨾ none ⨾ end)
+one_stability_short_term_scalar = one_by (λ κs. answered_one) (λ κs a o c. c ⨾ none ⨾ none ⨾ none ⨾ end)
 
 -- model_v6::state
 pub one_next_state_scalar : One next_state_scalar.Kinds.ps next_state_scalar.Kinds.r next_state_scalar.Reads.Post
-one_next_state_scalar = one (λ κs a o c. c ⨾ none ⨾ none ⨾ none ⨾ none ⨾ end)
+one_next_state_scalar = one_by (λ κs. step_answered_one) (λ κs a o c. c ⨾ none ⨾ none ⨾ none ⨾ none ⨾ end)
 
 pub one_first_state_scalar : One first_state_scalar.Kinds.ps first_state_scalar.Kinds.r first_state_scalar.Reads.Post
-one_first_state_scalar = one (λ κs a o c. c ⨾ none ⨾ none ⨾ end)
+one_first_state_scalar = one_by (λ κs. state_answered_one) (λ κs a o c. c ⨾ none ⨾ none ⨾ end)
 
 -- model_v6::seen
 pub one_next_state_on_scalar : One next_state_on_scalar.Kinds.ps next_state_on_scalar.Kinds.r next_state_on_scalar.Reads.Post
-one_next_state_on_scalar = one (λ κs a o c. c ⨾ none ⨾ none ⨾ none ⨾ none ⨾ end)
+one_next_state_on_scalar = one_by (λ κs. seen_answered_one) (λ κs a o c. c ⨾ none ⨾ none ⨾ none ⨾ none ⨾ end)
 
 -- model_v6::rows
 pub one_check_row : One check_row.Kinds.ps check_row.Kinds.r check_row.Reads.Post
-one_check_row = one (λ κs a o c. c ⨾ none ⨾ none ⨾ none ⨾ none ⨾ none ⨾ none ⨾ end)
+one_check_row = one_by (λ κs. row_answered_one) (λ κs a o c. c ⨾ none ⨾ none ⨾ none ⨾ none ⨾ none ⨾ none ⨾ end)
 
-pub one_refusal_of : One refusal_of.Kinds.ps refusal_of.Kinds.r refusal_of.Reads.Post
-one_refusal_of = one (λ κs a o c. c ⨾ none ⨾ end)
+pub one_field_number : One field_number.Kinds.ps field_number.Kinds.r field_number.Reads.Post
+one_field_number = one (λ κs a o c. c ⨾ none ⨾ end)
 
-pub one_verdict_of : One verdict_of.Kinds.ps verdict_of.Kinds.r verdict_of.Reads.Post
-one_verdict_of = one (λ κs a o c. c ⨾ none ⨾ end)
+pub one_verdict_number : One verdict_number.Kinds.ps verdict_number.Kinds.r verdict_number.Reads.Post
+one_verdict_number = one (λ κs a o c. c ⨾ none ⨾ end)
 
 -- model_v6::sm2
 pub one_memory_state_from_sm2_scalar : One memory_state_from_sm2_scalar.Kinds.ps memory_state_from_sm2_scalar.Kinds.r memory_state_from_sm2_scalar.Reads.Post
-one_memory_state_from_sm2_scalar = one (λ κs a o c. c ⨾ none ⨾ none ⨾ none ⨾ none ⨾ end)
+one_memory_state_from_sm2_scalar = one_by (λ κs. state_answered_one) (λ κs a o c. c ⨾ none ⨾ none ⨾ none ⨾ none ⨾ end)
+
+-- domain::refusal and domain::weights
+pub one_number : One number.Kinds.ps number.Kinds.r number.Reads.Post
+one_number = one (λ κs a o c. c ⨾ none ⨾ end)
+
+pub one_u32_from : One from.Kinds.ps from.Kinds.r from.Reads.Post
+one_u32_from = one (λ κs a o c. c ⨾ none ⨾ end)
+
+pub one_number_of : One number_of.Kinds.ps number_of.Kinds.r number_of.Reads.Post
+one_number_of = one (λ κs a o c. c ⨾ none ⨾ end)
+
+pub one_check_weights : One check_weights.Kinds.ps check_weights.Kinds.r check_weights.Reads.Post
+one_check_weights = one_by (λ κs x y h. same_answer x y h (λ u v p q. refl)) (λ κs a o c. c ⨾ none ⨾ end)
+
+pub one_try_from : One try_from.Kinds.ps try_from.Kinds.r try_from.Reads.Post
+one_try_from = record { same = λ κs a o o' c c'. taken_one _ o.0 o'.0 c.1 c'.1 ⨾ none ⨾ end }
+
+-- of a refusal that hands back a T
+module _ (T : RattleType) (L1 : Laws T) (K : IsCopy T) (G1 : Clone.Ghosts T.Denot) (D1 : Dict) where
+  pub one_refused_from : One (refused_from.Kinds.ps T L1 K) (refused_from.Kinds.r T L1 K) (refused_from.Reads.Post T L1 K G1 D1)
+  one_refused_from = one (λ κs a o c. c ⨾ none ⨾ end)

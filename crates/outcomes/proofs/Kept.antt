@@ -3,12 +3,9 @@ use mathlib.Core.Path.{ap, ◌∙◌}
 use Rattle.outcomes.specs.Outcome.{Kept, keeps}
 use Rattle.outcomes.proofs.Tuples.{◌⨾◌, end, still, back}
 use Rattle.outcomes.proofs.Refused.{refused}
-use Rattle.analytic_v6.proofs.step.training_step_backward
-use Rattle.analytic_v6.proofs.prefixes.grad_columns.batch_loss_and_grad_columns
-use Rattle.analytic_v6.proofs.prefixes.grad_columns.batch_loss_and_grad_columns_in
-use Rattle.analytic_v6.proofs.cards.grad_columns.card_loss_and_grad_columns
-use Rattle.analytic_v6.proofs.cards.grad_columns.card_loss_and_grad_columns_in
+use Rattle.training_v7.specs.Penalty.{answered}
 use Rattle.training_v7.proofs.penalty.l2_penalty_value_and_grad
+use Rattle.analytic_v6.specs.Results as losses
 use Rattle.batch.proofs.run_file
 use Rattle.fsrs6.proofs.study.fsrs_power_forgetting_curve
 use Rattle.fsrs6.proofs.study.fsrs_next_interval
@@ -39,37 +36,18 @@ use Rattle.fsrs6.proofs.initialization.fsrs_initial_stability
 use Rattle.fsrs6.proofs.file.fsrs_batch_file
 
 -- These lend by `&mut` and have no refusal: what each leaves is stated by its contract, for every call.
--- never refuse: checks::tables::write checks::tables::write_f64 columns::records::store_step
+-- never refuse: checks::tables::put_cell
+-- never refuse: columns::records::ColumnsLayout::store columns::step_records::StepsLayout::store columns::untraced::UntracedLayout::store
 -- never refuse: backward::curve::curve_backward
 -- never refuse: backward::step::step_backward columns::backward_pass::column_backward columns::forward_pass::prefix_forward_recorded columns::forward_pass::card_forward_recorded
 -- never refuse: columns::last_review::target_end columns::last_review::last_end
--- never refuse: columns::step_records::prefix_forward_steps columns::step_records::card_forward_steps
--- never refuse: columns::step_records::prefix_backward_steps columns::step_records::column_backward_steps
-
--- analytic_v6::step
-pub kept_training_step_backward : Kept training_step_backward.Kinds.ps training_step_backward.Kinds.r (λ κs a z. z.refusal) (λ κs e. e) training_step_backward.Reads.Post
-kept_training_step_backward = keeps (λ κs a o c. ap (λ z. z.refusal) c.0) (λ κs a o c h. still ⨾ still ⨾ still ⨾ still ⨾ still ⨾ still ⨾ still ⨾ still ⨾ back (c.1 ∙ search refused) ⨾ end)
-
--- analytic_v6::prefixes::grad
-pub kept_batch_loss_and_grad_columns : Kept batch_loss_and_grad_columns.Kinds.ps batch_loss_and_grad_columns.Kinds.r (λ κs a z. z.refusal) (λ κs e. e) batch_loss_and_grad_columns.Reads.Post
-kept_batch_loss_and_grad_columns = keeps (λ κs a o c. ap (λ z. z.refusal) c.0) (λ κs a o c h. still ⨾ still ⨾ still ⨾ still ⨾ still ⨾ still ⨾ still ⨾ still ⨾ still ⨾ back (c.1.0 ∙ search refused) ⨾ back (c.1.1 ∙ search refused) ⨾ end)
-
-pub kept_batch_loss_and_grad_columns_in : Kept batch_loss_and_grad_columns_in.Kinds.ps batch_loss_and_grad_columns_in.Kinds.r (λ κs a z. z.refusal) (λ κs e. e) batch_loss_and_grad_columns_in.Reads.Post
-kept_batch_loss_and_grad_columns_in = keeps (λ κs a o c. ap (λ z. z.refusal) c.0) (λ κs a o c h. still ⨾ still ⨾ still ⨾ still ⨾ still ⨾ still ⨾ still ⨾ still ⨾ still ⨾ still ⨾ back (c.1.0 ∙ search refused) ⨾ back (c.1.1 ∙ search refused) ⨾ end)
-
--- analytic_v6::cards::grad
-pub kept_card_loss_and_grad_columns : Kept card_loss_and_grad_columns.Kinds.ps card_loss_and_grad_columns.Kinds.r (λ κs a z. z.refusal) (λ κs e. e) card_loss_and_grad_columns.Reads.Post
-kept_card_loss_and_grad_columns = keeps (λ κs a o c. ap (λ z. z.refusal) c.0) (λ κs a o c h. still ⨾ still ⨾ still ⨾ still ⨾ still ⨾ still ⨾ still ⨾ still ⨾ back (c.1.0 ∙ search refused) ⨾ back (c.1.1 ∙ search refused) ⨾ back (c.1.2 ∙ search refused) ⨾ end)
-
-pub kept_card_loss_and_grad_columns_in : Kept card_loss_and_grad_columns_in.Kinds.ps card_loss_and_grad_columns_in.Kinds.r (λ κs a z. z.refusal) (λ κs e. e) card_loss_and_grad_columns_in.Reads.Post
-kept_card_loss_and_grad_columns_in = keeps (λ κs a o c. ap (λ z. z.refusal) c.0) (λ κs a o c h. still ⨾ still ⨾ still ⨾ still ⨾ still ⨾ still ⨾ still ⨾ still ⨾ still ⨾ back (c.1.0 ∙ search refused) ⨾ back (c.1.1 ∙ search refused) ⨾ back (c.1.2 ∙ search refused) ⨾ end)
 
 -- training_v7::penalty
-pub kept_l2_penalty_value_and_grad : Kept l2_penalty_value_and_grad.Kinds.ps l2_penalty_value_and_grad.Kinds.r (λ κs a z. z.refusal) (λ κs e. e) l2_penalty_value_and_grad.Reads.Post
+pub kept_l2_penalty_value_and_grad : Kept l2_penalty_value_and_grad.Kinds.ps l2_penalty_value_and_grad.Kinds.r (λ κs a z. (answered z).refusal) (λ κs e. e) l2_penalty_value_and_grad.Reads.Post
 kept_l2_penalty_value_and_grad = keeps (λ κs a o c. ap (λ z. z.refusal) c.0) (λ κs a o c h. still ⨾ still ⨾ still ⨾ still ⨾ still ⨾ still ⨾ back (c.1 ∙ search refused) ⨾ end)
 
 -- batch
-pub kept_run_file : Kept run_file.Kinds.ps run_file.Kinds.r (λ κs a z. z.refusal) (λ κs e. e) run_file.Reads.Post
+pub kept_run_file : Kept run_file.Kinds.ps run_file.Kinds.r (λ κs a z. (losses.answered z).refusal) (λ κs e. e) run_file.Reads.Post
 kept_run_file = keeps (λ κs a o c. ap (λ z. z.refusal) c.0) (λ κs a o c h. still ⨾ back (c.1 ∙ search refused) ⨾ end)
 
 -- fsrs6::study

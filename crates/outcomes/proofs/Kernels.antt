@@ -1,13 +1,15 @@
 -- One outcome: the kernels and what they stand on. A line for each function: its answer, then each parameter in turn. Assumes nothing.
-use mathlib.Core.Path.{refl, sym, ◌∙◌}
-use Rattle.outcomes.specs.Outcome.{One, one}
+use denote.RattleType.{RattleType}
+use denote.Param.Laws.{Laws, IsCopy}
+use mir.Syntax.{Dict}
+use contract.Lifetimes.{Lfts}
+use borrow.Fn.Kinds.{Dens}
+use Rattle.std.specs.Prelude.{◌<◌, ◌^◌}
+use Rattle.outcomes.specs.Outcome.{One, Outcome, Satisfies, one}
 use Rattle.outcomes.proofs.Tuples.{◌⨾◌, none, end}
-use Rattle.outcomes.proofs.Words.{words}
 use Rattle.soft.proofs.wide.product
 use Rattle.soft.proofs.shifts.shr
-use Rattle.soft.proofs.wide.sum
 use Rattle.soft.proofs.shifts.digits64
-use Rattle.soft.proofs.units.pattern
 use Rattle.soft.proofs.units.measure
 use Rattle.soft.proofs.units.is_finite
 use Rattle.soft.proofs.half_away.round_f64
@@ -17,35 +19,28 @@ use Rattle.soft.proofs.fma.fma_f32
 use Rattle.soft.proofs.narrow.narrow
 use Rattle.table.proofs.entry_at
 use Rattle.table.proofs.index.index_at
-use Rattle.kernels.proofs.exp.exp_f64
-use Rattle.kernels.proofs.exp.exp_f32
+use Rattle.kernels.proofs.exp.exp
+use Rattle.kernels.proofs.ln.ln
+use Rattle.kernels.proofs.pow.pow
 use Rattle.kernels.proofs.expm1.expm1_f32
 use Rattle.kernels.proofs.pow_ln.pow_ln_f64
-use Rattle.kernels.proofs.ln.ln_f64
-use Rattle.kernels.proofs.ln.ln_f32
-use Rattle.kernels.proofs.pow.pow_f64
-use Rattle.kernels.proofs.pow.pow_f32
 
 -- soft::wide
 pub one_product : One product.Kinds.ps product.Kinds.r product.Reads.Post
-one_product = record { same = λ κs a o o' c c'. words κs c.0 c'.0 (c.1 ∙ sym c'.1) refl }
+one_product = one (λ κs a o c. c ⨾ none ⨾ none ⨾ end)
+
+-- what answers is a value of its type: a product is two words, the lower one below 2 ^ 64
+pub words_product : (κs : Lfts 0) (a : Dens κs product.Kinds.ps) (o : Outcome product.Kinds.ps product.Kinds.r κs a) → Satisfies product.Kinds.ps product.Kinds.r product.Reads.Post κs a o → o.0 < 2 ^ 128
+words_product κs a o c = c.0
 
 -- soft::shifts
 pub one_shr : One shr.Kinds.ps shr.Kinds.r shr.Reads.Post
-one_shr = record { same = λ κs a o o' c c'. words κs c.0 c'.0 (c.1 ∙ sym c'.1) refl }
+one_shr = one (λ κs a o c. c ⨾ none ⨾ none ⨾ end)
 
--- soft::wide
-pub one_sum : One sum.Kinds.ps sum.Kinds.r sum.Reads.Post
-one_sum = record { same = λ κs a o o' c c'. words κs c.0 c'.0 (c.1 ∙ sym c'.1) refl }
-
--- soft::shifts
 pub one_digits64 : One digits64.Kinds.ps digits64.Kinds.r digits64.Reads.Post
 one_digits64 = one (λ κs a o c. c ⨾ none ⨾ end)
 
 -- soft::units
-pub one_pattern : One pattern.Kinds.ps pattern.Kinds.r pattern.Reads.Post
-one_pattern = one (λ κs a o c. c ⨾ none ⨾ end)
-
 pub one_measure : One measure.Kinds.ps measure.Kinds.r measure.Reads.Post
 one_measure = one (λ κs a o c. c ⨾ none ⨾ end)
 
@@ -78,13 +73,6 @@ one_entry_at = one (λ κs a o c. c ⨾ none ⨾ end)
 pub one_index_at : One index_at.Kinds.ps index_at.Kinds.r index_at.Reads.Post
 one_index_at = one (λ κs a o c. c ⨾ none ⨾ end)
 
--- kernels::exp
-pub one_exp_f64 : One exp_f64.Kinds.ps exp_f64.Kinds.r exp_f64.Reads.Post
-one_exp_f64 = one (λ κs a o c. c ⨾ none ⨾ end)
-
-pub one_exp_f32 : One exp_f32.Kinds.ps exp_f32.Kinds.r exp_f32.Reads.Post
-one_exp_f32 = one (λ κs a o c. c ⨾ none ⨾ end)
-
 -- kernels::expm1
 pub one_expm1_f32 : One expm1_f32.Kinds.ps expm1_f32.Kinds.r expm1_f32.Reads.Post
 one_expm1_f32 = one (λ κs a o c. c ⨾ none ⨾ end)
@@ -93,16 +81,12 @@ one_expm1_f32 = one (λ κs a o c. c ⨾ none ⨾ end)
 pub one_pow_ln_f64 : One pow_ln_f64.Kinds.ps pow_ln_f64.Kinds.r pow_ln_f64.Reads.Post
 one_pow_ln_f64 = one (λ κs a o c. c ⨾ none ⨾ none ⨾ end)
 
--- kernels::ln
-pub one_ln_f64 : One ln_f64.Kinds.ps ln_f64.Kinds.r ln_f64.Reads.Post
-one_ln_f64 = one (λ κs a o c. c ⨾ none ⨾ end)
+-- kernels::exp, kernels::ln, kernels::pow: of every format
+pub one_exp : (F : RattleType) (L : Laws F) (C : IsCopy F) (G1 : _) (D1 : Dict) (G2 : _) (D2 : Dict) (G3 : _) (D3 : Dict) (G4 : _) (D4 : Dict) → One (exp.Kinds.ps F L C) (exp.Kinds.r F L C) (exp.Reads.Post F L C G1 D1 G2 D2 G3 D3 G4 D4)
+one_exp F L C G1 D1 G2 D2 G3 D3 G4 D4 = one (λ κs a o c. c ⨾ none ⨾ end)
 
-pub one_ln_f32 : One ln_f32.Kinds.ps ln_f32.Kinds.r ln_f32.Reads.Post
-one_ln_f32 = one (λ κs a o c. c ⨾ none ⨾ end)
+pub one_ln : (F : RattleType) (L : Laws F) (C : IsCopy F) (G1 : _) (D1 : Dict) (G2 : _) (D2 : Dict) (G3 : _) (D3 : Dict) (G4 : _) (D4 : Dict) → One (ln.Kinds.ps F L C) (ln.Kinds.r F L C) (ln.Reads.Post F L C G1 D1 G2 D2 G3 D3 G4 D4)
+one_ln F L C G1 D1 G2 D2 G3 D3 G4 D4 = one (λ κs a o c. c ⨾ none ⨾ end)
 
--- kernels::pow
-pub one_pow_f64 : One pow_f64.Kinds.ps pow_f64.Kinds.r pow_f64.Reads.Post
-one_pow_f64 = one (λ κs a o c. c ⨾ none ⨾ none ⨾ end)
-
-pub one_pow_f32 : One pow_f32.Kinds.ps pow_f32.Kinds.r pow_f32.Reads.Post
-one_pow_f32 = one (λ κs a o c. c ⨾ none ⨾ none ⨾ end)
+pub one_pow : (F : RattleType) (L : Laws F) (C : IsCopy F) (G1 : _) (D1 : Dict) (G2 : _) (D2 : Dict) (G3 : _) (D3 : Dict) (G4 : _) (D4 : Dict) → One (pow.Kinds.ps F L C) (pow.Kinds.r F L C) (pow.Reads.Post F L C G1 D1 G2 D2 G3 D3 G4 D4)
+one_pow F L C G1 D1 G2 D2 G3 D3 G4 D4 = one (λ κs a o c. c ⨾ none ⨾ none ⨾ end)

@@ -14,14 +14,13 @@ use Rattle.forward.specs.declared.state.State.{State}
 use Rattle.analytic_v6.specs.Step.{reverse_refusal, training_reverse, reverse_slots_def}
 use Rattle.analytic_v6.proofs.Entry.{slots_refused}
 use Rattle.analytic_v6.specs.Answers.{answer}
-use Rattle.analytic_v6.specs.declared.answers.Loss.{Loss}
+use Rattle.analytic_v6.specs.Results.{Loss}
 use Rattle.checks.specs.Batch.{Prefixes, Cards}
 use Rattle.columns.specs.Records.{room_def}
-use Rattle.analytic_v6.specs.Prefixes.{batch_loss_and_grad_def, batch_slots, batch_steps, batch_records}
-use Rattle.analytic_v6.specs.Cards.{cards_loss_and_grad, cards_slots, cards_steps, cards_records, cards_grads}
+use Rattle.analytic_v6.specs.Prefixes.{batch_loss_and_grad_def, batch_slots, batch_left, batch_records}
+use Rattle.analytic_v6.specs.Cards.{cards_loss_and_grad, cards_slots, cards_left, cards_records, cards_grads}
 use Rattle.training_v7.specs.Penalty.{penalty_answer, penalty_slots_def}
-use Rattle.batch.specs.Header.{sections_of, well_formed_def}
-use Rattle.batch.specs.declared.header.Header.{Header}
+use Rattle.batch.specs.Header.{Header, sections_of, well_formed_def}
 use Rattle.batch.specs.File.{prefix_loss_in, prefix_slots_in, card_loss_in_def, card_slots_in, call_loss, call_slots, cells_of, lengths_of, file_loss, file_slots_def}
 
 -- ---- a lent place, and the ten numbers of a record
@@ -54,10 +53,12 @@ module _ (w : List Float) (x : Prefixes) where
   unfolding batch_loss_and_grad_def batch_records answer
   prefix_records gw records h = rw (ne_eqb _ 0 h)
 
-  pub prefix_steps :
-      (gw : ℕ) (records : List StepRecord) → ((batch_loss_and_grad_def w x gw (length records)).refusal ≡ 0 → ⊥) → batch_steps w x gw records ≡ records
-  unfolding batch_loss_and_grad_def batch_steps answer
-  prefix_steps gw records h = rw (ne_eqb _ 0 h)
+  -- in whichever layout: how many rows there is room for, and how a row is stored
+  pub prefix_left :
+      {A : Type 0} (room : ℕ → ℕ) (store : List A → ℕ → StepRecord → List A) (gw : ℕ) (records : List A) →
+      ((batch_loss_and_grad_def w x gw (room (length records))).refusal ≡ 0 → ⊥) → batch_left room store w x gw records ≡ records
+  unfolding batch_loss_and_grad_def batch_left answer
+  prefix_left room store gw records h = rw (ne_eqb _ 0 h)
 
 -- ---- the loss of a batch of cards
 module _ (w : List Float) (x : Cards) where
@@ -73,11 +74,11 @@ module _ (w : List Float) (x : Cards) where
   unfolding cards_loss_and_grad cards_records answer
   card_records gw records grads h = rw (ne_eqb _ 0 h)
 
-  pub card_steps :
-      (gw : ℕ) (records : List StepRecord) (grads : ℕ) → ((cards_loss_and_grad w x gw (length records) grads).refusal ≡ 0 → ⊥) →
-      cards_steps w x gw records grads ≡ records
-  unfolding cards_loss_and_grad cards_steps answer
-  card_steps gw records grads h = rw (ne_eqb _ 0 h)
+  pub card_left :
+      {A : Type 0} (room : ℕ → ℕ) (store : List A → ℕ → StepRecord → List A) (gw : ℕ) (records : List A) (grads : ℕ) →
+      ((cards_loss_and_grad w x gw (room (length records)) grads).refusal ≡ 0 → ⊥) → cards_left room store w x gw records grads ≡ records
+  unfolding cards_loss_and_grad cards_left answer
+  card_left room store gw records grads h = rw (ne_eqb _ 0 h)
 
   pub card_grads :
       (gw records : ℕ) (grads : List Float) → ((cards_loss_and_grad w x gw records (length grads)).refusal ≡ 0 → ⊥) →
@@ -121,4 +122,4 @@ pub file_slots : (file : List ℕ) (gw : List Float) → ((file_loss file (lengt
 unfolding file_loss file_slots_def
 file_slots file gw k = of_form (sections_of file) (cells_of file) (lengths_of file) gw (well_formed_def file) _ k
 
-pub ruleset refused = (place, numbers, reverse_slots, prefix_slots, prefix_steps, prefix_records, card_slots, card_steps, card_records, card_grads, penalty_slots, file_slots)
+pub ruleset refused = (place, numbers, reverse_slots, prefix_slots, prefix_left, prefix_records, card_slots, card_left, card_records, card_grads, penalty_slots, file_slots)

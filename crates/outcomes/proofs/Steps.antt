@@ -1,8 +1,8 @@
 -- One outcome: the training step, its reverse and its explanation. A line for each function: its answer, then each parameter in turn. Assumes nothing.
-use Rattle.outcomes.specs.Outcome.{One, one}
+use Rattle.outcomes.specs.Outcome.{One, one, one_by}
 use Rattle.outcomes.proofs.Tuples.{◌⨾◌, none, end}
 use Rattle.forward.proofs.parameters.init_difficulty
-use Rattle.forward.proofs.parameters.runtime_params
+use Rattle.forward.proofs.parameters.RuntimeParams.new as params_new
 use Rattle.forward.proofs.curve.curve_forward
 use Rattle.forward.proofs.step.clamp_state
 use Rattle.forward.proofs.step.rating_number
@@ -10,23 +10,23 @@ use Rattle.forward.proofs.step.is_first
 use Rattle.forward.proofs.step.step_forward
 use Rattle.backward.proofs.slots.stability_grad
 use Rattle.backward.proofs.curve.curve_backward
+use Rattle.backward.proofs.curve.WideCurveFromCurveCache.from as wide_from
 use Rattle.backward.proofs.step.step_backward
-use Rattle.analytic_v6.proofs.step.training_step
-use Rattle.analytic_v6.proofs.step.training_step_backward
-use Rattle.explain.proofs.reasons.held_number
-use Rattle.explain.proofs.reasons.reason_number
+use Rattle.explain.proofs.reasons.U32FromHeld.from as held_from
+use Rattle.explain.proofs.reasons.U32FromReason.from as reason_from
+use Rattle.explain.proofs.Results.{explain_answered_one}
 use Rattle.explain.proofs.step.explain_step
 
 -- forward::parameters
 pub one_init_difficulty : One init_difficulty.Kinds.ps init_difficulty.Kinds.r init_difficulty.Reads.Post
-one_init_difficulty = one (λ κs a o c. c ⨾ none ⨾ none ⨾ none ⨾ end)
+one_init_difficulty = one (λ κs a o c. c ⨾ none ⨾ none ⨾ end)
 
-pub one_runtime_params : One runtime_params.Kinds.ps runtime_params.Kinds.r runtime_params.Reads.Post
-one_runtime_params = one (λ κs a o c. c ⨾ none ⨾ end)
+pub one_params_new : One params_new.Kinds.ps params_new.Kinds.r params_new.Reads.Post
+one_params_new = one (λ κs a o c. c ⨾ none ⨾ end)
 
 -- forward::curve
 pub one_curve_forward : One curve_forward.Kinds.ps curve_forward.Kinds.r curve_forward.Reads.Post
-one_curve_forward = one (λ κs a o c. c ⨾ none ⨾ none ⨾ none ⨾ none ⨾ end)
+one_curve_forward = one (λ κs a o c. c ⨾ none ⨾ none ⨾ none ⨾ end)
 
 -- forward::step
 pub one_clamp_state : One clamp_state.Kinds.ps clamp_state.Kinds.r clamp_state.Reads.Post
@@ -49,24 +49,20 @@ one_stability_grad = one (λ κs a o c. c ⨾ none ⨾ end)
 pub one_curve_backward : One curve_backward.Kinds.ps curve_backward.Kinds.r curve_backward.Reads.Post
 one_curve_backward = one (λ κs a o c. c.0 ⨾ none ⨾ none ⨾ none ⨾ c.1 ⨾ end)
 
+pub one_wide_from : One wide_from.Kinds.ps wide_from.Kinds.r wide_from.Reads.Post
+one_wide_from = one (λ κs a o c. c ⨾ none ⨾ end)
+
 -- backward::step
 pub one_step_backward : One step_backward.Kinds.ps step_backward.Kinds.r step_backward.Reads.Post
 one_step_backward = one (λ κs a o c. c.0 ⨾ none ⨾ none ⨾ none ⨾ none ⨾ none ⨾ c.1 ⨾ end)
 
--- analytic_v6::step
-pub one_training_step : One training_step.Kinds.ps training_step.Kinds.r training_step.Reads.Post
-one_training_step = one (λ κs a o c. c ⨾ none ⨾ none ⨾ none ⨾ none ⨾ none ⨾ end)
-
-pub one_training_step_backward : One training_step_backward.Kinds.ps training_step_backward.Kinds.r training_step_backward.Reads.Post
-one_training_step_backward = one (λ κs a o c. c.0 ⨾ none ⨾ none ⨾ none ⨾ none ⨾ none ⨾ none ⨾ none ⨾ none ⨾ c.1 ⨾ end)
-
 -- explain::reasons
-pub one_held_number : One held_number.Kinds.ps held_number.Kinds.r held_number.Reads.Post
-one_held_number = one (λ κs a o c. c ⨾ none ⨾ end)
+pub one_held_from : One held_from.Kinds.ps held_from.Kinds.r held_from.Reads.Post
+one_held_from = one (λ κs a o c. c ⨾ none ⨾ end)
 
-pub one_reason_number : One reason_number.Kinds.ps reason_number.Kinds.r reason_number.Reads.Post
-one_reason_number = one (λ κs a o c. c ⨾ none ⨾ end)
+pub one_reason_from : One reason_from.Kinds.ps reason_from.Kinds.r reason_from.Reads.Post
+one_reason_from = one (λ κs a o c. c ⨾ none ⨾ end)
 
 -- explain::step
 pub one_explain_step : One explain_step.Kinds.ps explain_step.Kinds.r explain_step.Reads.Post
-one_explain_step = one (λ κs a o c. c ⨾ none ⨾ none ⨾ none ⨾ none ⨾ none ⨾ end)
+one_explain_step = one_by (λ κs. explain_answered_one) (λ κs a o c. c ⨾ none ⨾ none ⨾ none ⨾ none ⨾ none ⨾ end)

@@ -1,4 +1,4 @@
 pub mod FiniteEntries
 pub mod FrozenEntries
 pub mod Outcome
-pub mod Walked
+pub mod Passes

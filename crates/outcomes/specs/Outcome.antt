@@ -1,16 +1,9 @@
 -- What it is for a contract to leave one outcome, and for a refused call to leave what was lent to it as it was. Document 01 asks
 -- both of every public function, and proofs/ has a line for each. Assumes nothing.
 use Rattle.std.specs.Prelude.{ℕ, List, ◌≡◌}
-use Rattle.std.proofs.Common.{sym, ◌∙◌, subst}
-use seplogic.Ra.Ura.{Ura}
-use base.Logic.{SProp, ent}
-use prog.Memory.{Memory}
-use prog.Routine.{Routine}
-use types.Logic.{Logic}
+use Rattle.std.proofs.Common.{sym, ◌∙◌, subst, ap}
 use contract.Lifetimes.{Lfts}
-use contract.Monad.{Fun, fact}
-use denote.Triple.Clauses.{Ended, Lasts, AtExit, at_exit, Clauses}
-use denote.Triple.Entry.{Args, Res}
+use denote.Triple.Clauses.{Lasts, AtExit, at_exit}
 use borrow.Fn.Kinds.{ParamKind, ResultKind, Out, Dens, res_t, ended_of}
 
 -- the number of a refusal: document 01's table has '0 accepted'
@@ -46,6 +39,10 @@ module _ {n : ℕ} (ps : List (ParamKind n)) (r : ResultKind n) where
   pub record One (C : Out n ps r) : Type 0 where
     pub same : (κs : Lfts n) (a : Dens κs ps) (o o' : Outcome κs a) → Satisfies C κs a o → Satisfies C κs a o' → o ≡ o'
 
+  -- The same with nothing asked of the answer's type: of the passes and entries that are lent step records
+  pub record Sole (C : Out n ps r) : Type 0 where
+    pub same : (κs : Lfts n) (a : Dens κs ps) (o o' : Outcome κs a) → Claims C κs a o → Claims C κs a o' → o ≡ o'
+
   -- 'A refusal [..] writes nothing': if the call's number is a refusal's, then every parameter is left as it was passed, each lent
   -- slice and place with its content.
   -- number: where the call's number stands, in its answer or its arguments. same-type: what a call leaves of its parameters, read
@@ -53,13 +50,38 @@ module _ {n : ℕ} (ps : List (ParamKind n)) (r : ResultKind n) where
   pub record Kept
       (number : (κs : Lfts n) → Dens κs ps → (res_t r κs).Denot → ℕ) (same-type : (κs : Lfts n) → AtExit (ended_of n ps r) κs → Dens κs ps)
       (C : Out n ps r) : Type 0 where
-    pub kept : (κs : Lfts n) (a : Dens κs ps) (o : Outcome κs a) → Satisfies C κs a o → Refused (number κs a o.0) → same-type κs (left κs a o) ≡ a
+    pub kept : (κs : Lfts n) (a : Dens κs ps) (o : Outcome κs a) → Claims C κs a o → Refused (number κs a o.0) → same-type κs (left κs a o) ≡ a
 
 -- the law: where a contract claims the outcome to be a function of the call, there is one
 pub one :
     {n : ℕ} {ps : List (ParamKind n)} {r : ResultKind n} {C : Out n ps r} {says : (κs : Lfts n) (a : Dens κs ps) → Outcome ps r κs a}
     → ((κs : Lfts n) (a : Dens κs ps) (o : Outcome ps r κs a) → Claims ps r C κs a o → o ≡ says κs a) → One ps r C
 one h = record { same = λ κs a o o' c c'. h κs a o c.1 ∙ sym (h κs a o' c'.1) }
+
+pub sole :
+    {n : ℕ} {ps : List (ParamKind n)} {r : ResultKind n} {C : Out n ps r} {X : Type 0} {stands : (κs : Lfts n) → (res_t r κs).Denot → X}
+    {says : (κs : Lfts n) (a : Dens κs ps) → X × Lasts (ended_of n ps r) κs a}
+    → ((κs : Lfts n) (x y : (res_t r κs).Denot) → stands κs x ≡ stands κs y → x ≡ y)
+    → ((κs : Lfts n) (a : Dens κs ps) (o : Outcome ps r κs a) → Claims ps r C κs a o → (stands κs o.0, o.1) ≡ says κs a) → Sole ps r C
+sole {stands = stands} known h =
+    record {
+      same = λ κs a o o' c c' i. let e = h κs a o c ∙ sym (h κs a o' c') in (known κs o.0 o'.0 (ap (λ z. z.0) e) i, ap (λ z. z.1) e i);
+    }
+
+pub one_of : {n : ℕ} {ps : List (ParamKind n)} {r : ResultKind n} {C : Out n ps r} → Sole ps r C → One ps r C
+one_of h = record { same = λ κs a o o' c c'. h.same κs a o o' c.1 c'.1 }
+
+-- likewise where it claims what the answer stands for to be a function of the call, and an answer is known by that
+pub one_by :
+    {n : ℕ} {ps : List (ParamKind n)} {r : ResultKind n} {C : Out n ps r} {X : Type 0} {stands : (κs : Lfts n) → (res_t r κs).Denot → X}
+    {says : (κs : Lfts n) (a : Dens κs ps) → X × Lasts (ended_of n ps r) κs a}
+    → ((κs : Lfts n) (x y : (res_t r κs).Denot) → stands κs x ≡ stands κs y → x ≡ y)
+    → ((κs : Lfts n) (a : Dens κs ps) (o : Outcome ps r κs a) → Claims ps r C κs a o → (stands κs o.0, o.1) ≡ says κs a) → One ps r C
+one_by {stands = stands} known h =
+    record {
+      same = λ κs a o o' c c' i.
+          let e = h κs a o c.1 ∙ sym (h κs a o' c'.1) in (known κs o.0 o'.0 (ap (λ z. z.0) e) i, ap (λ z. z.1) e i);
+    }
 
 -- likewise for refusals, where it claims the number to be a function of the call
 pub keeps :
@@ -69,46 +91,4 @@ pub keeps :
     → ((κs : Lfts n) (a : Dens κs ps) (o : Outcome ps r κs a) → Claims ps r C κs a o → number κs a o.0 ≡ says κs a)
     → ((κs : Lfts n) (a : Dens κs ps) (o : Outcome ps r κs a) → Claims ps r C κs a o → Refused (says κs a) → same-type κs (left ps r κs a o) ≡ a)
     → Kept ps r number same-type C
-keeps e h = record { kept = λ κs a o c k. h κs a o c.1 (subst Refused (e κs a o c.1) k) }
-
--- Of a function to which a slice of step records is lent the claim is written out, over what the kit hands out: its `Ended` T, the signature with what is kept of each
--- parameter, and its clauses. C is its claim, and `States` is that its `ensures` says C
-module _ (T : Ended) where
-  abbrev pub Claim : Type 1
-  Claim = (κs : Lfts T.signature.lifetimes) → Args T.signature κs → Res T.signature κs → AtExit T κs → Type 0
-
-  abbrev pub WalkedOutcome : (κs : Lfts T.signature.lifetimes) → Args T.signature κs → Type 0
-  WalkedOutcome κs a = Res T.signature κs × Lasts T κs a
-
-  abbrev pub Meets : Claim → (κs : Lfts T.signature.lifetimes) (a : Args T.signature κs) → WalkedOutcome κs a → Type 0
-  Meets C κs a o = C κs a o.0 (at_exit T κs a o.1)
-
-  pub record States
-      (clauses : (M : Type 1) (𝓤 : Ura M) (𝓛 : Logic 𝓤) → (Memory → SProp 𝓤) → (Routine → Fun 𝓤) → Clauses 𝓤 T) (C : Claim) : Type 2 where
-    pub says :
-        {M : Type 1} {𝓤 : Ura M} (𝓛 : Logic 𝓤) (mem : Memory → SProp 𝓤) (run : Routine → Fun 𝓤)
-        (κs : Lfts T.signature.lifetimes) (a : Args T.signature κs) (g : (clauses M 𝓤 𝓛 mem run κs a).ghost) (z : Res T.signature κs) (e : AtExit T κs) →
-        ent 𝓤 ((clauses M 𝓤 𝓛 mem run κs a).ensures g z e) (fact 𝓤 (C κs a z e))
-
-  pub record OneWalked (C : Claim) : Type 0 where
-    pub same : (κs : Lfts T.signature.lifetimes) (a : Args T.signature κs) (o o' : WalkedOutcome κs a) → Meets C κs a o → Meets C κs a o' → o ≡ o'
-
-  pub record KeptWalked
-      (number : (κs : Lfts T.signature.lifetimes) → Res T.signature κs → ℕ)
-      (same-type : (κs : Lfts T.signature.lifetimes) → AtExit T κs → Args T.signature κs) (C : Claim) : Type 0 where
-    pub kept :
-        (κs : Lfts T.signature.lifetimes) (a : Args T.signature κs) (o : WalkedOutcome κs a) → Meets C κs a o → Refused (number κs o.0) →
-        same-type κs (at_exit T κs a o.1) ≡ a
-
-pub one_walked :
-    {T : Ended} {C : Claim T} {says : (κs : Lfts T.signature.lifetimes) (a : Args T.signature κs) → WalkedOutcome T κs a}
-    → ((κs : Lfts T.signature.lifetimes) (a : Args T.signature κs) (o : WalkedOutcome T κs a) → Meets T C κs a o → o ≡ says κs a) → OneWalked T C
-one_walked h = record { same = λ κs a o o' c c'. h κs a o c ∙ sym (h κs a o' c') }
-
-pub keeps_walked :
-    {T : Ended} {number : (κs : Lfts T.signature.lifetimes) → Res T.signature κs → ℕ}
-    {same-type : (κs : Lfts T.signature.lifetimes) → AtExit T κs → Args T.signature κs} {C : Claim T} {says : (κs : Lfts T.signature.lifetimes) → Args T.signature κs → ℕ}
-    → ((κs : Lfts T.signature.lifetimes) (a : Args T.signature κs) (o : WalkedOutcome T κs a) → Meets T C κs a o → number κs o.0 ≡ says κs a)
-    → ((κs : Lfts T.signature.lifetimes) (a : Args T.signature κs) (o : WalkedOutcome T κs a) → Meets T C κs a o → Refused (says κs a) → same-type κs (at_exit T κs a o.1) ≡ a)
-    → KeptWalked T number same-type C
-keeps_walked e h = record { kept = λ κs a o c k. h κs a o c (subst Refused (e κs a o c) k) }
+keeps e h = record { kept = λ κs a o c k. h κs a o c (subst Refused (e κs a o c) k) }

@@ -1,24 +1,18 @@
--- What a search works with one decay and one factor is what the definition works with the default's. Assumes nothing.
-use Rattle.std.proofs.Common.{◌≡◌, List, ap, ◌∙◌}
+-- Rows that are read are the definition's, and what a loss works with its decay and factor is what the definition works. Assumes nothing.
+use Rattle.std.proofs.Common.{◌≡◌, ℕ, List}
 use lib.Ieee.{Float}
-use Rattle.parameter_initialization.specs.Derivatives.{DECAY, recall_factor_def, row_terms_def, derivatives_of_def, derivatives_def}
-use Rattle.parameter_initialization.specs.Search.{rounds_def, search_def}
-use Rattle.parameter_initialization.specs.declared.derivatives.Derivatives.{Derivatives}
-use Rattle.parameter_initialization.specs.declared.search.Bracket.{Bracket}
+use Rattle.checks.specs.Columns.{total}
+use Rattle.parameter_initialization.specs.Derivatives.{DECAY, recall_factor_def, row_terms_def, rows_of, row_of, derivatives_of_def, derivatives_def}
 
 pub same_row :
     (decay factor s t y n t' y' n' : Float) → n ≡ n' → y ≡ y' → t ≡ t' → row_terms_def decay factor s t y n ≡ row_terms_def decay factor s t' y' n'
 same_row decay factor s t y n t' y' n' e f g = rw (e, f, g)
 
-module _ (decay factor : Float) (e : decay ≡ DECAY) (f : factor ≡ recall_factor_def decay) (days shares counts : List Float) where
-  same : derivatives_of_def decay factor days shares counts ≡ derivatives_def days shares counts
-  unfolding derivatives_def
-  same = rw (f, e)
-
-  pub worked : (s : Float) (d : Derivatives) → d ≡ derivatives_of_def decay factor days shares counts s → d ≡ derivatives_def days shares counts s
-  worked s d h = h ∙ ap (λ (D : Float → Derivatives). D s) same
-
-  pub found :
-      (prior : Float) (b : Bracket) (x : Float)
-      → x ≡ search_def (derivatives_of_def decay factor days shares counts) prior rounds_def b → x ≡ search_def (derivatives_def days shares counts) prior rounds_def b
-  found prior b x h = h ∙ ap (λ (D : Float → Derivatives). search_def D prior rounds_def b) same
+pub worked :
+    (decay factor : Float) → decay ≡ DECAY → factor ≡ recall_factor_def DECAY → (days shares counts : List Float) (s : Float) (n : ℕ)
+    → n ≡ rows_of decay factor days shares counts → (slope curvature : Float)
+    → slope ≡ total (λ k. (row_of decay factor days shares counts s k).slope) n
+    → curvature ≡ total (λ k. (row_of decay factor days shares counts s k).curvature) n
+    → record { slope = slope; curvature = curvature } ≡ derivatives_def days shares counts s
+unfolding derivatives_def derivatives_of_def
+worked decay factor d f days shares counts s n e slope curvature g h = rw (g, h, e, d, f)

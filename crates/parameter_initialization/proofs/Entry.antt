@@ -1,25 +1,37 @@
 -- The entry's answer: refused, or accepted; what an accepted one lies between; and what no rows give. Assumes nothing.
-use Rattle.std.proofs.Common.{◌≡◌, ℕ, Bool, true, false, T, List, [], length, sym, refl, ap, ◌∙◌, subst, arith, ne_eqb}
+use Rattle.std.proofs.Common.{◌≡◌, Bool, true, false, T, List, [], length, sym, refl, ap, ◌∙◌, subst, arith, ne_eqb}
 use lib.Ieee.{Float, binary32, lt, le, eq, neg, of_bits}
 use Rattle.soft.specs.Narrow.{narrow_def}
 use Rattle.domain.specs.Floats.{within}
 use Rattle.domain.specs.Limits.{zero32, s_min_def}
 use Rattle.checks.specs.Columns.{total}
 use Rattle.parameter_initialization.specs.Derivatives.{derivatives_of_def, derivatives_def}
-use Rattle.parameter_initialization.specs.Search.{init_s_max_def, flat}
-use Rattle.parameter_initialization.specs.Start.{sized, default_good, first_number, rows_number_def, start_refusal_def, start_def, start_answer}
-use Rattle.parameter_initialization.specs.declared.stability.Start.{Start}
+use Rattle.domain.specs.Refusals.{number}
+use Rattle.domain.specs.declared.refusal.Refusal.{Refusal}
+use Rattle.domain.proofs.Refusals.{never_0}
+use Rattle.parameter_initialization.specs.Search.{init_s_max_def, flat, sought_def}
+use Rattle.parameter_initialization.specs.Start.{Start, sized, default_good, first_number, rows_number_def, start_refusal_def, start_def, start_answer}
 use Rattle.parameter_initialization.proofs.Range.{found_inside}
 use Rattle.parameter_initialization.proofs.Rounds.{takes_default}
 
-module _ (days shares counts : List Float) (default : Float) (n : ℕ) (e : n ≡ start_refusal_def days shares counts default) where
-  pub answer_refused : (n ≡ 0 → ⊥) → record { refusal = n; value = zero32 } ≡ start_answer days shares counts default
+module _ (days shares counts : List Float) (default : Float) where
+  pub answer_refused :
+      (e : Refusal) → number e ≡ start_refusal_def days shares counts default
+      → record { refusal = number e; value = zero32 } ≡ start_answer days shares counts default
   unfolding start_answer
-  answer_refused h = rw (← e, ne_eqb n 0 h)
+  answer_refused e h = rw (← h, ne_eqb _ 0 (never_0 e))
 
-  pub answer_accepted : n ≡ 0 → record { refusal = 0; value = start_def days shares counts default } ≡ start_answer days shares counts default
-  unfolding start_answer
-  answer_accepted z = rw (← e, z)
+  pub answer_accepted :
+      0 ≡ start_refusal_def days shares counts default
+      → record { refusal = 0; value = narrow_def binary32 (sought_def (derivatives_def days shares counts) default) } ≡ start_answer days shares counts default
+  unfolding start_answer start_def
+  answer_accepted z = rw (← z)
+
+  taken : start_refusal_def days shares counts default ≡ 0 → record { refusal = 0; value = start_def days shares counts default } ≡ start_answer days shares counts default
+  unfolding start_def
+  taken z = answer_accepted (sym z)
+
+pub ruleset entry = (answer_refused, answer_accepted)
 
 -- ---- an accepted default passed its test
 module _ (days shares counts : List Float) (default : Float) where
@@ -48,7 +60,7 @@ module _ (days shares counts : List Float) (default : Float) where
       (start_answer days shares counts default).refusal ≡ 0 → T (within (start_answer days shares counts default).value s_min_def init_s_max_def)
   answer_inside h =
       let z = sym number_is ∙ h in
-      subst (λ (a : Start). T (within a.value s_min_def init_s_max_def)) (answer_accepted days shares counts default _ refl z)
+      subst (λ (a : Start). T (within a.value s_min_def init_s_max_def)) (taken days shares counts default z)
       (def_inside (accepted_default z))
 
 -- ---- no rows: the slope is 0
@@ -68,6 +80,6 @@ pub no_rows :
     (default : Float) → T (default_good default) → start_answer [] [] [] default ≡ record { refusal = 0; value = narrow_def binary32 default }
 unfolding start_def
 no_rows default h =
-    sym (answer_accepted [] [] [] default _ refl (unrefused default h))
+    sym (taken [] [] [] default (unrefused default h))
     ∙ ap (λ (x : Float). record { refusal = 0; value = narrow_def binary32 x })
     (sym (takes_default (derivatives_def [] [] []) default _ refl true (sym (level default)) refl))

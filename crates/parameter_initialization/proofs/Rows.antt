@@ -1,5 +1,5 @@
 -- A row's number, and the search for the first bad row: one more row that is good, the row that is bad, and none at all. Assumes nothing.
-use Rattle.std.proofs.Common.{◌≡◌, ℕ, zero, suc, ◌+◌, ◌<◌, Bool, true, false, ◌&&◌, sym, refl, ◌∙◌, subst, add-zero, add-suc, add-sub_of_le, add-one, eq-eqb, ne_eqb}
+use Rattle.std.proofs.Common.{◌≡◌, ℕ, zero, suc, ◌+◌, ◌<◌, true, false, ◌&&◌, sym, refl, ◌∙◌, subst, add-zero, add-suc, add-sub_of_le, add-one, eq-eqb, ne_eqb}
 use lib.Ieee.{Float}
 use Rattle.checks.specs.Reads.{first}
 use Rattle.parameter_initialization.specs.Start.{day_good_def, share_good, count_good, row_number_def, first_number}
@@ -8,20 +8,20 @@ use Rattle.parameter_initialization.specs.Start.{day_good_def, share_good, count
 pub same_number : (t y n t' y' n' : Float) → n ≡ n' → y ≡ y' → t ≡ t' → row_number_def t y n ≡ row_number_def t' y' n'
 same_number t y n t' y' n' e f g = rw (e, f, g)
 
-module _ (t y n : Float) (day : Bool) (e : day ≡ day_good_def t) where
-  pub bad_day : day ≡ false → 7 ≡ row_number_def t y n
+module _ (t y n : Float) where
+  pub bad_day : day_good_def t ≡ false → 7 ≡ row_number_def t y n
   unfolding row_number_def
-  bad_day h = rw (← e, h)
+  bad_day h = rw h
 
-  module _
-      (h : day ≡ true) (share count good : Bool) (f : share ≡ share_good y) (g : count ≡ count_good n) (k : good ≡ (share && count)) where
-    pub bad_rest : good ≡ false → 8 ≡ row_number_def t y n
-    unfolding row_number_def
-    bad_rest i = rw (← e, h, ← f, ← g, ← k, i)
+  pub bad_rest : day_good_def t ≡ true → share_good y && count_good n ≡ false → 8 ≡ row_number_def t y n
+  unfolding row_number_def
+  bad_rest h g = rw (h, g)
 
-    pub good_row : good ≡ true → 0 ≡ row_number_def t y n
-    unfolding row_number_def
-    good_row i = rw (← e, h, ← f, ← g, ← k, i)
+  pub good_row : day_good_def t ≡ true → share_good y && count_good n ≡ true → 0 ≡ row_number_def t y n
+  unfolding row_number_def
+  good_row h g = rw (h, g)
+
+pub ruleset row = (bad_day, bad_rest, good_row)
 
 -- ---- all rows
 module _ (bad : ℕ → ℕ) where

@@ -1,15 +1,16 @@
 -- Change request K6: what the starting stability refuses, and its answer. Assumes nothing.
-use Rattle.std.specs.Prelude.{ℕ, zero, suc, Bool, false, cond, ◌&&◌, List, length, ◌==◌, nat_le, Float}
+use Rattle.std.specs.Prelude.{ℕ, zero, suc, Bool, false, cond, ◌&&◌, List, length, ◌==◌, nat_le, Float, Result, Ok, Err}
 use Rattle.std.specs.Float.{binary32, binary64}
 use Rattle.std.specs.Float.Ieee.{le, lt, round}
 use Rattle.soft.specs.Narrow.{narrow_def}
 use Rattle.domain.specs.Doubles.{zero64, one64}
 use Rattle.domain.specs.Floats.{within}
 use Rattle.domain.specs.Limits.{zero32, s_min_def, day_max_def}
+use Rattle.domain.specs.Refusals.{number}
+use Rattle.domain.specs.declared.refusal.Refusal.{Refusal}
 use Rattle.checks.specs.Reads.{first}
 use Rattle.parameter_initialization.specs.Derivatives.{◌at◌, derivatives_def}
 use Rattle.parameter_initialization.specs.Search.{init_s_max_def, sought_def}
-use Rattle.parameter_initialization.specs.declared.stability.Start.{Start}
 
 -- 'unequal or long columns': 'at most 4,096 rows'
 abbrev pub sized : (days shares counts : ℕ) → Bool
@@ -43,6 +44,15 @@ row_number_def t y n = cond (day_good_def t) (cond (share_good y && count_good n
 unfoldable pub first_number : (bad : ℕ → ℕ) (n : ℕ) → ℕ
 first_number bad zero = 0
 first_number bad (suc k) = first (first_number bad k) (bad k)
+
+-- what the entry answers, as a number and a value: 0 and the stability, or the refusal's number and +0.0
+pub record Start : Type 0 where
+  pub refusal : ℕ
+  pub value : Float
+
+abbrev pub answered : Result Float Refusal → Start
+answered (Ok x) = record { refusal = 0; value = x }
+answered (Err e) = record { refusal = number e; value = zero32 }
 
 module _ (days shares counts : List Float) where
   -- 'by row'

@@ -5,6 +5,6 @@
 mod curve;
 pub mod derivatives;
 mod ends;
-mod refusals;
+mod recalls;
 mod search;
 pub mod stability;

@@ -2,11 +2,12 @@
 use Prim.Native.Nat.{ℕ, ◌-◌, ◌<◌, ◌≤◌}
 use native.Mathlib.Nat.{le_trans, le_of_lt, lt_of_le_of_lt, sub-le, sub_self}
 use mathlib.Core.Path.{◌≡◌, refl, sym}
-use mathlib.Core.Bool.{Bool, true, false, ◌&&◌}
+use mathlib.Core.Bool.{Bool, true, ◌&&◌}
 use mathlib.Core.List.{List}
 use borrow.Author.Tests.{ne_eqb, le-leb, leb-true}
 use lib.Dec.{T, lit<}
 use lib.Ieee.{Float, eq, lt, is_nan, of_int, of_bits, round}
+use lib.Ieee.Bits.{is_true}
 use lib.Ieee.Fits.{and_i, and_l, and_r}
 use Rattle.soft.specs.HalfAway.{round_def}
 use Rattle.soft.proofs.units.Value.{holds}
@@ -24,10 +25,6 @@ use Rattle.model_v6.proofs.answers.Answering.{none_before, answers_good}
 use Rattle.model_v6.proofs.seen.Answering.{good, earlier_day, no_earlier_day, on_day_good}
 use Rattle.laws.proofs.Values.Days.{whole_value, whole_good, whole_kept}
 use Rattle.promises.specs.Carried.{Carried}
-
-is_true : (b : Bool) → T b → b ≡ true
-is_true true t = refl
-is_true false t = absurd t
 
 -- ---- 1, 2 and 13: none is given
 unrefused : (w : List Float) (b : Bool) → weights_refusal_def w ≡ 0 → T b → 0 ≡ scalar_refusal_def w b

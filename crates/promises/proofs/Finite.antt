@@ -10,6 +10,7 @@ use lib.Dec.{T, eqb, leb, lit≤}
 use lib.Ieee.{Float, binary32, of_bits, fits}
 use lib.Ieee.Bits.{is_true}
 use lib.ListN.{length}
+use Rattle.std.proofs.lemmas.Bool.{and_parts}
 use Rattle.soft.proofs.units.Value.{holds}
 use Rattle.domain.specs.Doubles.{zero64}
 use Rattle.domain.specs.Floats.{within}
@@ -59,15 +60,11 @@ ranged q i = record {
 }
 
 -- ---- 8,192 rows and 512 columns, of which no more are accepted, have 2 ^ 22 cells
-and-true : (a b : Bool) → a && b ≡ true → (a ≡ true) × (b ≡ true)
-and-true true b e = (refl, e)
-and-true false b e = absurd (holds e)
-
 cells_few : (a b rows columns c : ℕ) → table_sized_def a b rows columns c ≡ true → (rows ≤ 8192) × (columns ≤ 512)
 unfolding table_sized_def
 cells_few a b rows columns c e =
-    let both = and-true (leb rows max_rows && leb columns max_columns) _ e in
-    let each = and-true (leb rows max_rows) (leb columns max_columns) both.0 in
+    let both = and_parts (leb rows max_rows && leb columns max_columns) _ e in
+    let each = and_parts (leb rows max_rows) (leb columns max_columns) both.0 in
     (le_trans (leb-true rows max_rows each.0) (lit≤ tt), le_trans (leb-true columns max_columns each.1) (lit≤ tt))
 
 -- ---- the calls of rows, and of columns
@@ -131,7 +128,7 @@ module _ (w : List Float) (x : Prefixes) (s : Singles prefixes w x) (box : weigh
 
   few : (x.table.rows ≤ 8192) × (x.table.columns ≤ 512)
   unfolding prefix_sized_def
-  few = cells_few _ _ _ _ _ (and-true (table_sized_def (length x.table.days) (length x.table.ratings) x.table.rows x.table.columns (length x.table.lengths)) _ sized).0
+  few = cells_few _ _ _ _ _ (and_parts (table_sized_def (length x.table.days) (length x.table.ratings) x.table.rows x.table.columns (length x.table.lengths)) _ sized).0
 
   prefix_called : (column : ℕ) → column < x.table.columns → NoneRefused (prefix_calls_def (params_def w) x column)
   unfolding prefix_calls_def
@@ -182,7 +179,7 @@ module _ (w : List Float) (x : Cards) (s : Singles cards w x) (box : weights_ref
   cells_all : x.table.rows * x.table.columns ≤ 4194304
   unfolding card_sized_def
   cells_all =
-      let f = cells_few _ _ _ _ _ (and-true (table_sized_def (length x.table.days) (length x.table.ratings) x.table.rows x.table.columns (length x.table.lengths)) _ sized).0 in
+      let f = cells_few _ _ _ _ _ (and_parts (table_sized_def (length x.table.days) (length x.table.ratings) x.table.rows x.table.columns (length x.table.lengths)) _ sized).0 in
       mul-le-mul f.0 f.1
 
   last_number : (column : ℕ) → column < x.table.columns → Finite (last_score (params_def w) x column)

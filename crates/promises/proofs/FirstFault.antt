@@ -8,9 +8,8 @@ use lib.Dec.{eqb}
 use lib.Ieee.{Float}
 use Rattle.checks.proofs.Placed.{prefix_loss_number, prefix_grad_number, card_loss_number, card_grad_number}
 use Rattle.checks.specs.Batch.{Prefixes, Cards}
-use Rattle.checks.specs.Faults.{no_fault_def, unplaced, or_else, prefix_fault_def, card_fault_def}
+use Rattle.checks.specs.Faults.{Fault, no_fault_def, unplaced, or_else, prefix_fault_def, card_fault_def}
 use Rattle.checks.specs.Refusals.{prefix_loss_fault, prefix_grad_fault, card_loss_fault_def, card_grad_fault}
-use Rattle.checks.specs.declared.fault.Fault.{Fault}
 use Rattle.analytic_v6.specs.Answers.{answer}
 use Rattle.analytic_v6.specs.Prefixes.{batch_loss_def, batch_loss_and_grad_def}
 use Rattle.analytic_v6.specs.Cards.{cards_loss, cards_loss_and_grad}

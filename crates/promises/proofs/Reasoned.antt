@@ -6,6 +6,7 @@ use mathlib.Core.Path.{◌≡◌, refl, sym, ap, ◌∙◌, subst}
 use borrow.Author.Tests.{eq-eqb, eqb-false, not-true}
 use lib.Dec.{T, eqb}
 use lib.Ieee.{Float, binary32, fits, lt, eq, of_bits}
+use Rattle.std.proofs.lemmas.Bool.{and_parts}
 use Rattle.domain.specs.Floats.{◌*ᶠ◌}
 use Rattle.domain.specs.Limits.{decimal, zero32, one, two, three, four, s_min_def, s_max_def, d_min, d_max, day_good_def}
 use Rattle.domain.specs.Weights.{weights_refusal_def}
@@ -22,17 +23,17 @@ use Rattle.columns.specs.Records.{six, plain_cells, chosen_cells, branch_cells_d
 use Rattle.columns.specs.StepRecords.{no_step_def}
 use Rattle.analytic_v6.proofs.Entry.{step_accepted}
 use Rattle.analytic_v6.specs.Step.{is_unread_def, finite_state, step_refusal_def, stepped, training_step_def}
-use Rattle.analytic_v6.specs.declared.step.TrainingStep.{TrainingStep}
+use Rattle.analytic_v6.specs.Results.{TrainingStep}
 use Rattle.explain.specs.Reasons.{reason_number_def, success_reason_def, reason_of_def}
 use Rattle.explain.specs.Step.{explained, unexplained, explain_def}
 use Rattle.explain.specs.declared.reasons.Reason.{Reason}
 use Rattle.explain.specs.declared.reasons.Reason.TheVariants.{SameDayOne, LapseRaw, LapseFloor, Success as Plain, SuccessHard, SuccessEasy}
-use Rattle.explain.specs.declared.step.Explained.{Explained}
+use Rattle.explain.specs.Results.{Explained}
 use Rattle.laws.proofs.Ranges.Ratings.{by_rating}
 use Rattle.promises.specs.Reasoned.{multiplier, raw, floor, holds, HeldRight, ReasonedStep, Reasoned}
 use Rattle.promises.proofs.reasoning.Ends.{held_right, stability_ends, difficulty_ends}
 use Rattle.promises.proofs.reasoning.Steps.{reason_is, holds_is, pre_clamp, before_is, clamp_is, one_is, raw_is, floor_is}
-use Rattle.promises.proofs.reasoning.Tests.{both, picked, one_of, picked_holds, no_other, review_of}
+use Rattle.promises.proofs.reasoning.Tests.{picked, one_of, picked_holds, no_other, review_of}
 
 -- ---- an accepted step's rating is good, and if it is not 0 it is one of four
 some : (n k : ℕ) → T (not (eqb n 0)) → n ≡ 0 → ⊥
@@ -130,7 +131,7 @@ module _ (w : List Float) (q : State) (day rating : Float) (row : ℕ) (k : T (f
       (eq rating zero32 ≡ false) × (is_first_def row q.s ≡ false) × (eq day zero32 ≡ false) × (eq rating one ≡ true) × (l ≡ true)
   lapsed l h =
       let b = review_of (eq rating zero32) (is_first_def row q.s) (not (eq day zero32)) (eq rating one && l) h in
-      let c = both (eq rating one) l b.3 in
+      let c = and_parts (eq rating one) l b.3 in
       (b.0, b.1, not-true _ b.2, c.0, c.1)
 
   raw_taken : answer.reason ≡ LapseRaw → (pre_clamp p q day rating row).s ≡ raw p q day rating row

@@ -7,6 +7,7 @@ use mathlib.Core.Path.{◌≡◌, refl, sym, ap, ◌∙◌, subst}
 use borrow.Author.Tests.{eqb-true, eqb-false}
 use lib.Dec.{T, eqb}
 use lib.Ieee.{Float, is_nan}
+use lib.Ieee.Bits.{is_true}
 use lib.Ieee.Fits.{and_i, and_l, and_r}
 use lib.Ieee.Scale.{finite}
 use Rattle.soft.proofs.units.Value.{holds}
@@ -17,22 +18,16 @@ use Rattle.laws.proofs.Ranges.Interval.{stability_finite, within_number, interva
 use Rattle.laws.proofs.Ranges.Scalars.{next_good}
 use Rattle.model_v6.specs.Answers.{scalar_refusal_def, state_def, finite_memory, next_state_scalar_def, interval_scalar}
 use Rattle.model_v6.specs.Curve.{interval_def}
-use Rattle.model_v6.specs.Rows.{ours_def, verdict_def, row_refusal_def, row_check, refusal_of_def, verdict_of_def}
+use Rattle.model_v6.specs.Rows.{RowCheck, Refused, Accepted, ours_def, verdict_def, row_refusal_def, row_check, refusal_of_def, verdict_of_def}
 use Rattle.model_v6.specs.Seen.{on_day_scalar}
 use Rattle.model_v6.specs.Stability.{as_f32}
 use Rattle.model_v6.specs.declared.rows.Claimed.{Claimed}
-use Rattle.model_v6.specs.declared.rows.RowCheck.{RowCheck}
-use Rattle.model_v6.specs.declared.rows.RowCheck.TheVariants.{Refused, Accepted}
 use Rattle.model_v6.specs.declared.seen.Seen.{Seen}
 use Rattle.model_v6.specs.declared.state.MemoryState.{MemoryState}
 use Rattle.model_v6.proofs.answers.Answering.{none_before, answers_good}
 use Rattle.model_v6.proofs.rows.Verdicts.{verdict_0, verdict_1, verdict_2, verdict_3, verdict_same, row_refused, row_judged, row_number_is, scalar_number, unrefused, entries_accepted}
 use Rattle.promises.specs.Rows.{Row, check, refusal, after, interval, Has, bits_of, Singles, Rows}
 use Rattle.promises.proofs.Carried.{carried}
-
-is_true : (b : Bool) → T b → b ≡ true
-is_true true t = refl
-is_true false t = absurd t
 
 impossible : (k : ℕ) → suc k ≡ 0 → ⊥
 impossible k h = omega (arith, h)

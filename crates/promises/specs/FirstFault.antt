@@ -7,7 +7,7 @@ use Rattle.checks.specs.Align.{is_end_def}
 use Rattle.checks.specs.Batch.{Prefixes, Cards, length_at, history, target_read_at, label_at, weight_at_def}
 use Rattle.checks.specs.Reads.{is_last, prefix_row_def, card_row_def, target_def}
 use Rattle.checks.specs.Refusals.{prefix_loss_fault, prefix_grad_fault, card_loss_fault_def, card_grad_fault}
-use Rattle.checks.specs.declared.fault.Fault.{Fault}
+use Rattle.checks.specs.Faults.{Fault}
 use Rattle.analytic_v6.specs.Prefixes.{batch_loss_def, batch_loss_and_grad_def}
 use Rattle.analytic_v6.specs.Cards.{cards_loss, cards_loss_and_grad}
 

@@ -1,11 +1,11 @@
 -- A loss call of either kind, and what the two kinds differ in. The entries' contracts are equations with these definitions:
--- batch_loss_and_grad, batch_loss, card_loss_and_grad and card_loss (analytic_v6), the two `…_columns`, which are lent their records as plain columns of singles, and the
--- six `…_in` that take the mode. Assumes nothing.
+-- batch_loss_and_grad, batch_loss, card_loss_and_grad and card_loss (analytic_v6). A deck holds its mode, and a gradient call takes its records in any layout, as step records or
+-- as plain columns of singles. Assumes nothing.
 use Rattle.std.specs.Prelude.{ℕ, ◌-◌, Bool, ◌&&◌, List, [], leb, Float, length}
 use Rattle.checks.specs.Reads.{non_zero, card_label}
 use Rattle.checks.specs.Batch.{Table, Prefixes, Cards, length_at, first_at, target_weight_at, weight_at_def}
 use Rattle.checks.specs.Refusals.{longest_of, prefix_loss_refusal_def, prefix_grad_refusal_def, card_loss_refusal_def, card_grad_refusal_def}
-use Rattle.analytic_v6.specs.declared.answers.Loss.{Loss}
+use Rattle.analytic_v6.specs.Results.{Loss}
 use Rattle.analytic_v6.specs.Prefixes.{batch_loss_and_grad_def, batch_slots, batch_loss_def}
 use Rattle.analytic_v6.specs.Cards.{cards_loss_and_grad, cards_slots, cards_loss}
 use Rattle.promises.specs.CallReads.{Slice, days, ratings, targets, labels, weights, prefix_cell, prefix_reads, card_cell, card_reads}

@@ -34,7 +34,7 @@ use Rattle.explain.specs.declared.reasons.Reason.TheVariants.{
   SuccessHard,
   SuccessEasy,
 }
-use Rattle.explain.specs.declared.step.Explained.{Explained}
+use Rattle.explain.specs.Results.{Explained}
 
 -- ---- what each reason says of a step
 module _ (p : RuntimeParams) (q : State) (day rating : Float) (row : ℕ) where

@@ -10,12 +10,10 @@ use Rattle.domain.specs.Weights.{◌!◌}
 use Rattle.model_v6.specs.Answers.{scalar_refusal_def, finite_memory, next_state_scalar_def, interval_scalar}
 use Rattle.model_v6.specs.Curve.{interval_def}
 use Rattle.model_v6.specs.NextState.{next_state_def}
-use Rattle.model_v6.specs.Rows.{row_check, refusal_of_def, verdict_of_def}
+use Rattle.model_v6.specs.Rows.{RowCheck, Refused, Accepted, row_check, refusal_of_def, verdict_of_def}
 use Rattle.model_v6.specs.Seen.{on_day_scalar}
 use Rattle.model_v6.specs.Stability.{as_f32}
 use Rattle.model_v6.specs.declared.rows.Claimed.{Claimed}
-use Rattle.model_v6.specs.declared.rows.RowCheck.{RowCheck}
-use Rattle.model_v6.specs.declared.rows.RowCheck.TheVariants.{Refused, Accepted}
 use Rattle.model_v6.specs.declared.seen.Seen.{Seen}
 use Rattle.model_v6.specs.declared.state.MemoryState.{MemoryState}
 

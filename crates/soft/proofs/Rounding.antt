@@ -4,7 +4,6 @@ pub mod Closest
 pub mod Pattern
 pub mod Place
 pub mod Sticky
-pub mod Tiny
 pub mod Sum
 pub mod Relative
 pub mod Exponent

@@ -2,5 +2,4 @@ pub mod Fma
 pub mod HalfAway
 pub mod Narrow
 pub mod Units
-pub mod Value
 pub mod inner

@@ -1,4 +1,3 @@
 -- What private functions promise one another: no reader of a public contract needs these.
 pub mod Cuts
-pub mod Fma
 pub mod Pack

@@ -1,8 +1,8 @@
 -- A test of every entry of a list, computed once, gives what it tests at each place. Assumes nothing.
-use mathlib.Core.Path.{◌∙◌, subst, sym}
+use mathlib.Core.Path.{◌≡◌, refl, ◌∙◌, subst, sym}
 use mathlib.Core.Bool.{Bool, true, false}
 use mathlib.Core.List.{List, [], ◌∷◌}
-use Prim.Native.Nat.{ℕ, zero, suc, ◌+◌, ◌<◌}
+use Prim.Native.Nat.{ℕ, zero, suc, ◌+◌, ◌≤◌, ◌<◌}
 use native.Mathlib.Nat.{add-zero, zero-add, add-suc, suc-add, le_of_suc-le-suc, not-suc-le-zero}
 use lib.Dec.{T}
 use lib.ListN.{length, get_or}
@@ -33,6 +33,17 @@ from f (x ∷ xs) i t (suc k) h =
 
 pub at : (f : ℕ → ℕ → Bool) (xs : List ℕ) → T (every f 0 xs) → (k : ℕ) → k < length xs → T (f k (get_or xs k 0))
 at f xs t k h = subst (λ (m : ℕ). T (f m (get_or xs k 0))) (zero-add k) (from f xs 0 t k h)
+
+-- what stands at a place of a list, whatever is given where there is none; past its end it is what is given
+pub inside : (xs : List ℕ) (i d e : ℕ) → i < length xs → get_or xs i d ≡ get_or xs i e
+inside [] i d e h = absurd (not-suc-le-zero h)
+inside (x ∷ xs) zero d e h = refl
+inside (x ∷ xs) (suc i) d e h = inside xs i d e (le_of_suc-le-suc h)
+
+pub end : (xs : List ℕ) (i d : ℕ) → length xs ≤ i → get_or xs i d ≡ d
+end [] i d h = refl
+end (x ∷ xs) zero d h = absurd (not-suc-le-zero h)
+end (x ∷ xs) (suc i) d h = end xs i d (le_of_suc-le-suc h)
 
 -- the same of the numbers i, i + 1, .. n of them
 abbrev pub all : (ℕ → Bool) → (i n : ℕ) → Bool

@@ -8,20 +8,21 @@ use native.Mathlib.Omega.{arith}
 use lib.Dec.{T, leb, leb→le, nleb→lt}
 use Rattle.table.specs.Exact.{P, taylor, fact}
 use Rattle.table.specs.Entry.{entry, first_from, index}
+use Rattle.table.specs.declared.TheConstants.{POWERS}
 use Rattle.table.proofs.Every.{every, at}
-use Rattle.table.proofs.Entries.{powers, entry_at, entry_last}
+use Rattle.table.proofs.Entries.{rule, entry_last}
 
 -- ---- the entries ascend
 climbs : ℕ → ℕ → Bool
 climbs i x = leb x (entry (suc i))
 
-passes : T (every climbs 0 powers)
-unfolding climbs powers entry P taylor fact
+passes : T (every climbs 0 POWERS)
+unfolding climbs entry P taylor fact
 passes = tt
 
 next : (i : ℕ) → i < 256 → entry i ≤ entry (suc i)
-unfolding climbs powers
-next i h = leb→le (entry i) (entry (suc i)) (subst (λ (x : ℕ). T (climbs i x)) (entry_at i h) (at climbs powers passes i h))
+unfolding climbs
+next i h = leb→le (entry i) (entry (suc i)) (subst (λ (x : ℕ). T (climbs i x)) (rule i h) (at climbs POWERS passes i h))
 
 ascend : (i d : ℕ) → i + d ≤ 256 → entry i ≤ entry (i + d)
 ascend i zero h = le_of_eq (ap entry (sym (add-zero i)))

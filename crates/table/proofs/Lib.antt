@@ -3,4 +3,4 @@ pub mod Exact
 pub mod Every
 pub mod Entries
 pub mod First
-mod Rules
+mod Indices

@@ -1,4 +1,3 @@
 pub mod Entry
 pub mod Exact
 pub mod Whole
-pub mod inner

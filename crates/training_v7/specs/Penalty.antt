@@ -1,15 +1,16 @@
 -- Change request K13, a pull toward the old weights: l2_penalty_value_and_grad of training_v7.rs for 21 weights, with the spreads lent by the caller.
 -- A single widened is the same number, so that `as f64` of one leaves no trace here. Assumes nothing.
-use Rattle.std.specs.Prelude.{◌≡◌, ℕ, Bool, cond, not, ◌&&◌, List, length, pos, ◌==◌, from_bits, nat_le, slice_set, Float}
+use Rattle.std.specs.Prelude.{◌≡◌, ℕ, Bool, cond, not, ◌&&◌, List, length, pos, ◌==◌, from_bits, nat_le, slice_set, Float, Result, Ok, Err}
 use Rattle.std.specs.Float.{binary32, binary64}
 use Rattle.std.specs.Float.Ieee.{lt, of_int}
 use Rattle.std.specs.Float.Ieee.Scale.{finite}
 use Rattle.soft.specs.Narrow.{narrow_def}
 use Rattle.domain.specs.Doubles.{◌-ᵈ◌, ◌*ᵈ◌, ◌/ᵈ◌, zero64}
 use Rattle.domain.specs.Limits.{zero32}
+use Rattle.domain.specs.Refusals as refusals
 use Rattle.domain.specs.Weights.{◌!◌, all, weights_refusal_def}
+use Rattle.domain.specs.declared.refusal.Refusal.{Refusal}
 use Rattle.checks.specs.Columns.{total, through}
-use Rattle.training_v7.specs.declared.penalty.Penalty.{Penalty}
 
 abbrev pub two64 : Float
 two64 = from_bits binary64 0x4000_0000_0000_0000
@@ -79,6 +80,15 @@ penalty_refusal_def w v batch-size total_size s slots =
     number (are_sets_def w v s) (inside w && inside v) (slots == 21) (all_spreads_def s && (size_good batch-size && size_good total_size))
 
 -- ---- the entry
+-- what it answers, as a number and a value: 0 and the penalty, or the refusal's number and +0.0
+pub record Penalty : Type 0 where
+  pub refusal : ℕ
+  pub penalty : Float
+
+abbrev pub answered : Result Float Refusal → Penalty
+answered (Ok x) = record { refusal = 0; penalty = x }
+answered (Err e) = record { refusal = refusals.number e; penalty = zero64 }
+
 module _ (w v : List Float) (batch-size total_size : ℕ) (l2-weight : Float) (s : List Float) where
   -- let penalty = penalty_sum * scale;
   abbrev pub raw_penalty : Float

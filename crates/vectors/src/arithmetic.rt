@@ -1,20 +1,41 @@
 // The fused multiply-add, `round` and a double made a single, on a line's three numbers, compared with the fourth.
-use crate::patterns::{f32_of, f64_of, pattern_f32, pattern_f64};
+use crate::given::Given;
+use crate::list::{List, Row};
+use crate::words::Words;
 use soft::fma::{fma_f32, fma_f64};
 use soft::half_away::{round_f32, round_f64};
 use soft::narrow::narrow;
 
-pub fn is_call(n: usize) -> bool {
-    n == 4
+#[derive(Clone, Copy, Debug, PartialEq, Eq, Hash)]
+pub enum Arithmetic {
+    FmaF64,
+    FmaF32,
+    RoundF64,
+    RoundF32,
+    Narrow,
 }
 
-pub fn passes(letter: u8, k: &[u64; 640]) -> bool {
-    match letter {
-        b'F' => pattern_f64(fma_f64(f64_of(k[0]), f64_of(k[1]), f64_of(k[2]))) == k[3],
-        b'f' => pattern_f32(fma_f32(f32_of(k[0]), f32_of(k[1]), f32_of(k[2]))) == k[3],
-        b'R' => pattern_f64(round_f64(f64_of(k[0]))) == k[3],
-        b'r' => pattern_f32(round_f32(f32_of(k[0]))) == k[3],
-        b'n' => pattern_f32(narrow(f64_of(k[0]))) == k[3],
-        _ => false,
+impl List for Arithmetic {
+    const ROWS: &'static [Row<Arithmetic>] = &[
+        Row(b'F', "fma_f64", Arithmetic::FmaF64),
+        Row(b'f', "fma_f32", Arithmetic::FmaF32),
+        Row(b'R', "round_f64", Arithmetic::RoundF64),
+        Row(b'r', "round_f32", Arithmetic::RoundF32),
+        Row(b'n', "narrow", Arithmetic::Narrow),
+    ];
+
+    fn is_call(self, words: &Words<'_>) -> bool {
+        words.is_of_length(4)
+    }
+
+    // Stays: each call takes other arguments, so that a closure for each would be no plainer.
+    fn passes(self, words: &Words<'_>, _given: &Given) -> bool {
+        match self {
+            Arithmetic::FmaF64 => words.is(3, fma_f64(words.at(0), words.at(1), words.at(2))),
+            Arithmetic::FmaF32 => words.is(3, fma_f32(words.at(0), words.at(1), words.at(2))),
+            Arithmetic::RoundF64 => words.is(3, round_f64(words.at(0))),
+            Arithmetic::RoundF32 => words.is(3, round_f32(words.at(0))),
+            Arithmetic::Narrow => words.is(3, narrow(words.at(0))),
+        }
     }
 }

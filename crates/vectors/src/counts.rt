@@ -1,94 +1,121 @@
-// How many lines of each row were tried and passed, the first line that failed, and the account of
-// these on standard output.
-use std::io;
+// How many lines of each call were tried and passed, the first line that failed, and the account of these on standard output.
+use crate::list::Row;
+use std::{fmt, io};
 
-// What became of a line, and the row that it counts in. A remark or a line that only sets numbers is not tried.
-#[derive(Clone, Copy)]
+// More than any list has calls.
+// Stays: a tally for each, in fixed memory, since no program here has a heap.
+const CALLS: usize = 32;
+
+/// What became of a line. A remark or a line that only sets numbers is not tried; a call has its row in the list's table.
+#[derive(Clone, Copy, Debug, PartialEq, Eq, Hash)]
 pub enum Outcome {
     Untried,
-    Passed(usize),
-    Failed(usize),
+    Tried { row: usize, passed: bool },
+    Malformed,
 }
 
-fn count_at(counts: &[u64], row: usize) -> u64 {
-    if row < counts.len() { counts[row] } else { 0 }
+/// How many lines passed, of how many.
+#[derive(Clone, Copy, Debug, PartialEq, Eq, Hash)]
+pub struct Tally {
+    passed: u64,
+    tried: u64,
 }
 
-fn add_one(counts: &mut [u64], row: usize) {
-    if row < counts.len() {
-        counts[row] = std::num::wrapping_add_u64(counts[row], 1);
+impl Tally {
+    const NONE: Tally = Tally {
+        passed: 0,
+        tried: 0,
+    };
+
+    fn add(&mut self, other: Tally) {
+        self.passed = self.passed.wrapping_add(other.passed);
+        self.tried = self.tried.wrapping_add(other.tried);
+    }
+
+    fn add_line(&mut self, passed: bool) {
+        self.add(Tally {
+            passed: u64::from(passed),
+            tried: 1,
+        });
+    }
+
+    // A row that has no line goes unsaid.
+    fn print(&self, rt: &impl Print, name: &str) -> io::Result<()> {
+        if self.tried == 0 {
+            return Ok(());
+        }
+        println!(rt; "{name} {self}")
     }
 }
 
-// Counts a line. `first` is 0 until one has failed.
-pub fn count(outcome: Outcome, line: u64, passed: &mut [u64], tried: &mut [u64], first: &mut u64) {
-    match outcome {
-        Outcome::Untried => {}
-        Outcome::Passed(row) => {
-            add_one(tried, row);
-            add_one(passed, row);
+impl fmt::Display for Tally {
+    fn fmt<W: fmt::Write>(&self, f: &mut fmt::Formatter<W>) -> fmt::Result {
+        let Tally { passed, tried } = *self;
+        write!(f, "{passed} of {tried}")
+    }
+}
+
+/// The account of a list.
+#[derive(Clone, Copy, Debug)]
+pub struct Counts {
+    rows: [Tally; CALLS],
+    malformed: Tally,
+    first_failed: Option<u64>,
+}
+
+impl Counts {
+    pub const NONE: Counts = Counts {
+        rows: [Tally::NONE; CALLS],
+        malformed: Tally::NONE,
+        first_failed: None,
+    };
+
+    fn add_failed(&mut self, line: u64) {
+        if self.first_failed.is_none() {
+            self.first_failed = Some(line);
         }
-        Outcome::Failed(row) => {
-            add_one(tried, row);
-            if *first == 0 {
-                *first = line;
+    }
+
+    /// Counts a line.
+    pub fn add(&mut self, outcome: Outcome, line: u64) {
+        match outcome {
+            Outcome::Untried => {}
+            Outcome::Tried { row, passed } => {
+                if let Some(tally) = self.rows.get_mut(row) {
+                    tally.add_line(passed);
+                }
+                if !passed {
+                    self.add_failed(line);
+                }
+            }
+            Outcome::Malformed => {
+                self.malformed.add_line(false);
+                self.add_failed(line);
             }
         }
     }
-}
 
-fn total(counts: &[u64]) -> u64 {
-    let mut sum = 0;
-    let mut row = 0;
-    while row < counts.len() {
-        sum = std::num::wrapping_add_u64(sum, counts[row]);
-        row += 1;
+    fn total(&self) -> Tally {
+        let mut total = self.malformed;
+        for tally in &self.rows {
+            total.add(*tally);
+        }
+        total
     }
-    sum
-}
 
-pub fn print_line(rt: &impl Print, text: &str) -> io::Result<()> {
-    println!(rt; "{text}")
-}
-
-fn print_share(rt: &impl Print, name: &str, passed: u64, tried: u64) -> io::Result<()> {
-    println!(rt; "{name} {passed} of {tried}")
-}
-
-// A row that has no line goes unsaid.
-fn print_row(rt: &impl Print, name: &str, passed: u64, tried: u64) -> io::Result<()> {
-    if tried != 0 {
-        print_share(rt, name, passed, tried)?;
+    /// Prints the rows by their names, the first line that failed, and the total. Nothing tried is a failure.
+    pub fn print<C>(&self, rt: &impl Print, rows: &[Row<C>]) -> io::Result<()> {
+        let total = self.total();
+        if total.tried == 0 {
+            return println!(rt; "failed: no line was tried");
+        }
+        for (tally, Row(_, name, _)) in self.rows.iter().zip(rows) {
+            tally.print(rt, *name)?;
+        }
+        self.malformed.print(rt, "malformed")?;
+        if let Some(line) = self.first_failed {
+            println!(rt; "the first that failed is line {line}")?;
+        }
+        println!(rt; "total {total}")
     }
-    Ok(())
-}
-
-fn print_rows(rt: &impl Print, names: &[&str], passed: &[u64], tried: &[u64]) -> io::Result<()> {
-    for (row, name) in names.iter().enumerate() {
-        print_row(rt, *name, count_at(passed, row), count_at(tried, row))?;
-    }
-    Ok(())
-}
-
-fn print_first(rt: &impl Print, first: u64) -> io::Result<()> {
-    if first == 0 {
-        return Ok(());
-    }
-    println!(rt; "the first that failed is line {first}")
-}
-
-// The rows by their names, the first line that failed, and the total. Nothing tried is a failure.
-pub fn print_counts(
-    rt: &impl Print,
-    names: &[&str],
-    passed: &[u64; 32],
-    tried: &[u64; 32],
-    first: u64,
-) -> io::Result<()> {
-    if total(tried) == 0 {
-        return print_line(rt, "failed: no line was tried");
-    }
-    print_rows(rt, names, passed, tried)?;
-    print_first(rt, first)?;
-    print_share(rt, "total", total(passed), total(tried))
 }

@@ -1,62 +1,49 @@
 // A line's call of one of the two functions of `parameter_initialization`: a stability, three slices, and the answer's two words.
-use crate::patterns::{f64_of, pattern_f32, pattern_f64, pattern_u32};
-use crate::slices::{after, first_doubles, length_at, set_doubles, word_at};
-use parameter_initialization::derivatives::{Derivatives, loss_derivatives};
-use parameter_initialization::stability::{Start, initial_stability};
+use crate::given::Given;
+use crate::list::{List, Row};
+use crate::words::Words;
+use parameter_initialization::derivatives::loss_derivatives;
+use parameter_initialization::stability::initial_stability;
 
-// Where the slice of the days stands, then that of the shares, and of the counts.
-const DAYS: usize = 1;
-
-fn shares_at(k: &[u64; 640]) -> usize {
-    after(k, DAYS)
+#[derive(Clone, Copy, Debug, PartialEq, Eq, Hash)]
+pub enum Initial {
+    Derivatives,
+    Stability,
 }
 
-fn counts_at(k: &[u64; 640]) -> usize {
-    after(k, shares_at(k))
-}
+impl List for Initial {
+    const ROWS: &'static [Row<Initial>] = &[
+        Row(b'D', "loss_derivatives", Initial::Derivatives),
+        Row(b'S', "initial_stability", Initial::Stability),
+    ];
 
-// A word after the slices.
-fn rest_at(k: &[u64; 640], i: usize) -> u64 {
-    word_at(k, std::num::wrapping_add_usize(after(k, counts_at(k)), i))
-}
-
-// Whether n words are a call.
-pub fn is_call(k: &[u64; 640], n: usize) -> bool {
-    n != 0 && std::num::wrapping_add_usize(after(k, counts_at(k)), 2) == n
-}
-
-fn are_derivatives(k: &[u64; 640], d: Derivatives) -> bool {
-    pattern_f64(d.slope) == rest_at(k, 0) && pattern_f64(d.curvature) == rest_at(k, 1)
-}
-
-fn is_start(k: &[u64; 640], q: Start) -> bool {
-    pattern_u32(q.refusal) == rest_at(k, 0) && pattern_f32(q.value) == rest_at(k, 1)
-}
-
-// As slices, so that parts of them can be lent.
-fn call_passes(
-    letter: u8,
-    k: &[u64; 640],
-    days: &[f64; 64],
-    shares: &[f64; 64],
-    counts: &[f64; 64],
-) -> bool {
-    let t = first_doubles(days, length_at(k, DAYS));
-    let y = first_doubles(shares, length_at(k, shares_at(k)));
-    let n = first_doubles(counts, length_at(k, counts_at(k)));
-    let s = f64_of(k[0]);
-    if letter == b'D' {
-        return are_derivatives(k, loss_derivatives(t, y, n, s));
+    fn is_call(self, words: &Words<'_>) -> bool {
+        let counts = words.skip(1).skip_slice().skip_slice();
+        counts.skip_slice().is_of_length(2)
     }
-    is_start(k, initial_stability(t, y, n, s))
-}
 
-pub fn passes(letter: u8, k: &[u64; 640]) -> bool {
-    let mut days = [0.0f64; 64];
-    set_doubles(k, DAYS, &mut days);
-    let mut shares = [0.0f64; 64];
-    set_doubles(k, shares_at(k), &mut shares);
-    let mut counts = [0.0f64; 64];
-    set_doubles(k, counts_at(k), &mut counts);
-    call_passes(letter, k, &days, &shares, &counts)
+    // Stays: the slices are fixed memory, since no program here has a heap.
+    fn passes(self, words: &Words<'_>, _given: &Given) -> bool {
+        let days = words.skip(1);
+        let shares = days.skip_slice();
+        let counts = shares.skip_slice();
+        let answer = counts.skip_slice();
+        let mut day_numbers = [0.0f64; 64];
+        let mut share_numbers = [0.0f64; 64];
+        let mut count_numbers = [0.0f64; 64];
+        let days = days.slice(&mut day_numbers);
+        let shares = shares.slice(&mut share_numbers);
+        let counts = counts.slice(&mut count_numbers);
+        let s = words.at(0);
+        match self {
+            Initial::Derivatives => {
+                let derivatives = loss_derivatives(days, shares, counts, s);
+                answer.is(0, derivatives.slope) && answer.is(1, derivatives.curvature)
+            }
+            Initial::Stability => {
+                let start = initial_stability(days, shares, counts, s);
+                answer.is_refusal(0, &start) && answer.is(1, start.unwrap_or(0.0))
+            }
+        }
+    }
 }

@@ -1,142 +1,66 @@
-// A line's call over the weights and the starting slots that lines above it set, and over records and step
-// gradients of its own. After its slices it has seven words: how many records are lent and the pattern of
-// the first, the same of the step gradients, and the answer.
-pub mod calls;
+// A line's call over the weights and the starting slots that lines above it set, and over records and step gradients of its own.
+// After its slices it has seven words: how many records are lent and the pattern of the first, the same of the step gradients,
+// and the answer: the refusal, the loss, and the digest of all that was lent.
+pub mod deck;
+pub mod entries;
 
 use crate::digests::digest;
-use crate::losses::calls::{Places, call};
-use crate::patterns::{pattern_f64, pattern_u32};
-use crate::slices::{after, count_doubles, count_singles, length_at, set_doubles, word_at};
-use analytic_v6::answers::Loss;
+use crate::given::{Given, Slots};
+use crate::list::{List, Row};
+use crate::losses::deck::{Numbers, Places};
+use crate::losses::entries::Entry::{self, BatchGrad, BatchLoss, CardGrad, CardLoss};
+use crate::patterns::count_up;
+use crate::words::Words;
+use checks::align::Align::{self, End, Start};
 
-pub fn places(k: &[u64; 640]) -> Places {
-    let days = 2;
-    let ratings = after(k, days);
-    let lengths = after(k, ratings);
-    let targets = after(k, lengths);
-    let labels = after(k, targets);
-    let weights = after(k, labels);
-    let rest = after(k, weights);
-    Places {
-        days,
-        ratings,
-        lengths,
-        targets,
-        labels,
-        weights,
-        rest,
+/// An entry, and where its histories stand.
+#[derive(Clone, Copy, Debug)]
+pub struct Losses(Entry, Align);
+
+impl List for Losses {
+    const ROWS: &'static [Row<Losses>] = &[
+        Row(b'0', "batch_loss_and_grad", Losses(BatchGrad, Start)),
+        Row(b'1', "batch_loss", Losses(BatchLoss, Start)),
+        Row(b'2', "card_loss_and_grad", Losses(CardGrad, Start)),
+        Row(b'3', "card_loss", Losses(CardLoss, Start)),
+        Row(b'4', "batch_loss_and_grad_in", Losses(BatchGrad, End)),
+        Row(b'5', "batch_loss_in", Losses(BatchLoss, End)),
+        Row(b'6', "card_loss_and_grad_in", Losses(CardGrad, End)),
+        Row(b'7', "card_loss_in", Losses(CardLoss, End)),
+    ];
+
+    fn is_call(self, words: &Words<'_>) -> bool {
+        Places::of(words).rest.is_of_length(7)
     }
-}
 
-// A word after the slices.
-pub fn rest_at(k: &[u64; 640], p: Places, i: usize) -> u64 {
-    word_at(k, std::num::wrapping_add_usize(p.rest, i))
-}
-
-// Whether n words are a call.
-pub fn is_call(k: &[u64; 640], n: usize) -> bool {
-    let p = places(k);
-    n != 0 && std::num::wrapping_add_usize(p.rest, 7) == n
-}
-
-// The refusal and the loss.
-fn is_answer(q: Loss, refusal: u64, loss: u64) -> bool {
-    pattern_u32(q.refusal) == refusal && pattern_f64(q.loss) == loss
-}
-
-fn is_passed(
-    letter: u8,
-    k: &[u64; 640],
-    p: Places,
-    w: &[f32],
-    slots: &mut [f64],
-    records: &mut [f32],
-    grads: &mut [f64],
-) -> bool {
-    let q = call(letter, k, p, w, slots, records, grads);
-    is_answer(q, rest_at(k, p, 4), rest_at(k, p, 5))
-        && digest(slots, records, grads) == rest_at(k, p, 6)
-}
-
-// Lends the step gradients that the line asks for. A line that asks for more than there are fails.
-fn lend_grads(
-    letter: u8,
-    k: &[u64; 640],
-    p: Places,
-    w: &[f32],
-    slots: &mut [f64],
-    records: &mut [f32],
-    grads: &mut [f64],
-) -> bool {
-    let n = rest_at(k, p, 2) as usize;
-    if grads.len() < n {
-        return false;
+    // A line that asks for more than there are fails. The loss alone is lent no slots.
+    // Stays: records and step gradients are fixed memory, since no program here has a heap.
+    fn passes(self, words: &Words<'_>, given: &Given) -> bool {
+        let Losses(entry, align) = self;
+        let places = Places::of(words);
+        // Stays: `rest` is read seven times below.
+        let rest = places.rest;
+        let mut slots = if entry.has_gradient() {
+            given.slots()
+        } else {
+            Slots::NONE
+        };
+        let slots = slots.lent();
+        let mut records = [0.0f32; 640];
+        count_up(rest.at(1), &mut records);
+        let Some(records) = records.get_mut(..rest.at(0)) else {
+            return false;
+        };
+        let mut step_grads = [0.0f64; 64];
+        count_up(rest.at(3), &mut step_grads);
+        let Some(step_grads) = step_grads.get_mut(..rest.at(2)) else {
+            return false;
+        };
+        let mut numbers = Numbers::NONE;
+        let deck = places.deck(&mut numbers, align);
+        let answer = entry.call(given.weights(), &deck, slots, records, step_grads);
+        rest.is_refusal(4, &answer)
+            && rest.is(5, answer.unwrap_or(0.0))
+            && rest.is(6, digest(slots, records, step_grads))
     }
-    is_passed(letter, k, p, w, slots, records, &mut grads[0..n])
-}
-
-fn lend_records(
-    letter: u8,
-    k: &[u64; 640],
-    p: Places,
-    w: &[f32],
-    slots: &mut [f64],
-    records: &mut [f32],
-    grads: &mut [f64],
-) -> bool {
-    let n = rest_at(k, p, 0) as usize;
-    if records.len() < n {
-        return false;
-    }
-    lend_grads(letter, k, p, w, slots, &mut records[0..n], grads)
-}
-
-// The loss alone is lent no slots.
-fn lend_slots(
-    letter: u8,
-    k: &[u64; 640],
-    p: Places,
-    w: &[f32],
-    given: usize,
-    slots: &mut [f64],
-    records: &mut [f32],
-    grads: &mut [f64],
-) -> bool {
-    let n = if letter % 2 == 0 { given } else { 0 };
-    if slots.len() < n {
-        return false;
-    }
-    lend_records(letter, k, p, w, &mut slots[0..n], records, grads)
-}
-
-// As slices, so that parts of them can be lent.
-fn lend(
-    letter: u8,
-    k: &[u64; 640],
-    w: &[f32],
-    slots: &mut [f64; 64],
-    given: usize,
-    records: &mut [f32; 640],
-    grads: &mut [f64; 64],
-) -> bool {
-    lend_slots(letter, k, places(k), w, given, slots, records, grads)
-}
-
-pub fn passes(letter: u8, k: &[u64; 640], w: &[f32], slots: &[u64; 640]) -> bool {
-    let p = places(k);
-    let mut g = [0.0f64; 64];
-    set_doubles(slots, 0, &mut g);
-    let mut records = [0.0f32; 640];
-    count_singles(rest_at(k, p, 1), &mut records);
-    let mut grads = [0.0f64; 64];
-    count_doubles(rest_at(k, p, 3), &mut grads);
-    lend(
-        letter,
-        k,
-        w,
-        &mut g,
-        length_at(slots, 0),
-        &mut records,
-        &mut grads,
-    )
 }

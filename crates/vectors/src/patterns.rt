@@ -1,50 +1,82 @@
 // Numbers and truths by their patterns, as the vectors have them. Every NaN has one pattern.
-const NAN_F64: u64 = 0x7ff8_0000_0000_0000;
+use std::num::{
+    f32_from_bits_with_nan, f32_to_bits_with_nan, f64_from_bits_with_nan, f64_to_bits_with_nan,
+};
 
-const NAN_F32: u64 = 0x7fc0_0000;
+/// A type whose values stand in a line as words.
+pub trait Pattern: Copy {
+    /// The value of a word; one of 32 bits stands in the lower half.
+    fn from_pattern(word: u64) -> Self;
 
-pub fn f64_of(b: u64) -> f64 {
-    if 0x7ff0_0000_0000_0000 < b % 0x8000_0000_0000_0000 {
-        return 0.0 / 0.0;
+    /// The word of a value.
+    fn pattern(self) -> u64;
+}
+
+impl Pattern for f64 {
+    fn from_pattern(word: u64) -> f64 {
+        f64_from_bits_with_nan(word)
     }
-    f64::from_bits(b)
-}
 
-// The lower half of b.
-pub fn f32_of(b: u64) -> f32 {
-    f32_from(u32_of(b))
-}
-
-fn f32_from(b: u32) -> f32 {
-    if 0x7f80_0000 < b % 0x8000_0000 {
-        return 0.0 / 0.0;
+    fn pattern(self) -> u64 {
+        f64_to_bits_with_nan(self)
     }
-    f32::from_bits(b)
 }
 
-pub fn pattern_f64(x: f64) -> u64 {
-    if x != x {
-        return NAN_F64;
+impl Pattern for f32 {
+    fn from_pattern(word: u64) -> f32 {
+        f32_from_bits_with_nan(u32::from_pattern(word))
     }
-    f64::to_bits(x)
-}
 
-pub fn pattern_f32(x: f32) -> u64 {
-    if x != x {
-        return NAN_F32;
+    fn pattern(self) -> u64 {
+        f32_to_bits_with_nan(self).pattern()
     }
-    pattern_u32(f32::to_bits(x))
 }
 
-pub fn pattern_u32(n: u32) -> u64 {
-    n as u64
+impl Pattern for u64 {
+    fn from_pattern(word: u64) -> u64 {
+        word
+    }
+
+    fn pattern(self) -> u64 {
+        self
+    }
 }
 
-pub fn pattern_bool(b: bool) -> u64 {
-    if b { 1 } else { 0 }
+impl Pattern for usize {
+    fn from_pattern(word: u64) -> usize {
+        word as usize
+    }
+
+    fn pattern(self) -> u64 {
+        self as u64
+    }
 }
 
-// The lower half of b.
-pub fn u32_of(b: u64) -> u32 {
-    (b % 0x1_0000_0000) as u32
+impl Pattern for u32 {
+    fn from_pattern(word: u64) -> u32 {
+        (word % 0x1_0000_0000) as u32
+    }
+
+    fn pattern(self) -> u64 {
+        u64::from(self)
+    }
+}
+
+impl Pattern for bool {
+    fn from_pattern(word: u64) -> bool {
+        word == 1
+    }
+
+    fn pattern(self) -> u64 {
+        u64::from(self)
+    }
+}
+
+/// Sets `to` to the values of patterns that count up by one from `first`, and wrap.
+pub fn count_up<T: Pattern>(first: u64, to: &mut [T]) {
+    let mut word = first;
+    for x in to.iter_mut() {
+        *x = T::from_pattern(word);
+        word = word.wrapping_add(1);
+    }
 }

@@ -1,70 +1,60 @@
 // Both entries on a line's arguments, over the weights and the starting slots that lines above it set.
 mod answers;
 
-use crate::patterns::{f32_of, f64_of};
-use crate::slices::{after, length_at, set_doubles};
+use crate::given::Given;
+use crate::list::{List, Row};
 use crate::steps::answers::{is_reverse, is_step};
-use analytic_v6::step::{TrainingReverse, training_step, training_step_backward};
+use crate::words::Words;
+use analytic_v6::step::{OutputGrad, training_step, training_step_backward};
+use backward::step::StateGrad;
 use forward::state::State;
 
-// A record has words of its own, and the slots after a reverse are a slice.
-pub fn is_call(letter: u8, k: &[u64; 640], n: usize) -> bool {
-    match letter {
-        b'T' => n == 24,
-        _ => n != 0 && after(k, 11) == n,
+#[derive(Clone, Copy, Debug, PartialEq, Eq, Hash)]
+pub enum Steps {
+    Forward,
+    Backward,
+}
+
+/// The state that a line's call is given.
+pub fn state_of(words: &Words<'_>) -> State {
+    State {
+        s: words.at(0),
+        d: words.at(1),
     }
 }
 
-fn state_of(k: &[u64; 640]) -> State {
-    let s = f32_of(k[0]);
-    let d = f32_of(k[1]);
-    State { s, d }
-}
+impl List for Steps {
+    const ROWS: &'static [Row<Steps>] = &[
+        Row(b'T', "training_step", Steps::Forward),
+        Row(b'B', "training_step_backward", Steps::Backward),
+    ];
 
-fn step_passes(k: &[u64; 640], w: &[f32]) -> bool {
-    let q = state_of(k);
-    is_step(
-        k,
-        training_step(w, q, f32_of(k[2]), f32_of(k[3]), k[4] as usize),
-    )
-}
-
-// The reverse over all of the given slots.
-fn reverse(k: &[u64; 640], w: &[f32], slots: &mut [f64]) -> TrainingReverse {
-    let q = state_of(k);
-    let day = f32_of(k[2]);
-    let rating = f32_of(k[3]);
-    let row = k[4] as usize;
-    let g_s = f64_of(k[5]);
-    let g_d = f64_of(k[6]);
-    let g_r = f64_of(k[7]);
-    training_step_backward(w, q, day, rating, row, g_s, g_d, g_r, slots)
-}
-
-// Lends the first n slots, or all where there are fewer.
-fn reverse_first(k: &[u64; 640], w: &[f32], slots: &mut [f64], n: usize) -> TrainingReverse {
-    if n < slots.len() {
-        return reverse(k, w, &mut slots[0..n]);
+    // A record has words of its own, and the slots after a reverse are a slice.
+    fn is_call(self, words: &Words<'_>) -> bool {
+        match self {
+            Steps::Forward => words.is_of_length(24),
+            Steps::Backward => words.skip(11).skip_slice().is_of_length(0),
+        }
     }
-    reverse(k, w, slots)
-}
 
-// As a slice, so that a part of it can be lent.
-fn reverse_some(k: &[u64; 640], w: &[f32], slots: &mut [f64; 64], n: usize) -> TrainingReverse {
-    reverse_first(k, w, slots, n)
-}
-
-fn reverse_passes(k: &[u64; 640], w: &[f32], given: &[u64; 640]) -> bool {
-    let mut slots = [0.0f64; 64];
-    set_doubles(given, 0, &mut slots);
-    let q = reverse_some(k, w, &mut slots, length_at(given, 0));
-    is_reverse(k, q, &slots)
-}
-
-pub fn passes(letter: u8, k: &[u64; 640], w: &[f32], slots: &[u64; 640]) -> bool {
-    match letter {
-        b'T' => step_passes(k, w),
-        b'B' => reverse_passes(k, w, slots),
-        _ => false,
+    fn passes(self, words: &Words<'_>, given: &Given) -> bool {
+        let w = given.weights();
+        let state = state_of(words);
+        let (day, rating, row) = (words.at(2), words.at(3), words.at(4));
+        match self {
+            Steps::Forward => is_step(words, training_step(w, state, day, rating, row)),
+            Steps::Backward => {
+                let mut slots = given.slots();
+                let g = OutputGrad {
+                    state: StateGrad {
+                        s: words.at(5),
+                        d: words.at(6),
+                    },
+                    retrievability: words.at(7),
+                };
+                let answer = training_step_backward(w, state, day, rating, row, g, slots.lent());
+                is_reverse(words, answer, slots.all())
+            }
+        }
     }
 }

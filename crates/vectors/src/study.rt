@@ -1,141 +1,163 @@
 // The functions of `domain` and `model_v6` on a line's arguments, compared with the answer there.
 mod answers;
 
-use crate::patterns::{f32_of, u32_of};
+use crate::given::Given;
+use crate::list::{List, Row};
 use crate::study::answers::{
-    is_filled, is_next, is_refusal, is_row, is_scalar, is_seen, is_state, is_truth, is_value,
-    is_weights,
+    is_filled, is_next, is_row, is_scalar, is_seen, is_state, is_value, is_weights, state_of,
 };
-use domain::{floats, limits};
+use crate::words::Words;
+use domain::defaults::{all_finite, default_weights};
+use domain::difficulty::{clamp_difficulty, is_difficulty};
+use domain::floats::{clamp, is_finite, is_within, max, min};
+use domain::limits::{clamp_interval, clamp_stability, floor_stability, is_day, is_stability};
+use domain::weights::{check_weights, copy_weights};
+use model_v6::curve::{next_interval_scalar, power_forgetting_curve_scalar};
+use model_v6::difficulty::{init_difficulty_scalar, mean_reversion_scalar, next_difficulty_scalar};
+use model_v6::filling::check_and_fill_parameters_fsrs6;
 use model_v6::rows::{Claimed, check_row};
 use model_v6::seen::{Seen, next_state_on_scalar};
-use model_v6::state::MemoryState;
-use model_v6::{curve, state};
+use model_v6::sm2::memory_state_from_sm2_scalar;
+use model_v6::stability::{
+    stability_after_failure_scalar, stability_after_success_scalar, stability_short_term_scalar,
+};
+use model_v6::state::next_state_scalar;
 
-// A set of weights takes more words than numbers do.
-pub fn is_call(letter: u8, n: usize) -> bool {
-    match letter {
-        b'u' | b'k' | b'F' => n == 22,
-        b'O' => n == 9,
-        b'R' => n == 10,
-        _ => n == 7,
+#[derive(Clone, Copy, Debug, PartialEq, Eq, Hash)]
+pub enum Study {
+    Clamp,
+    Max,
+    Min,
+    IsFinite,
+    IsWithin,
+    FloorStability,
+    ClampStability,
+    ClampInterval,
+    ClampDifficulty,
+    IsStability,
+    IsDifficulty,
+    IsDay,
+    WeightsRefusal,
+    AllFinite,
+    DefaultWeights,
+    CopyWeights,
+    Fill,
+    Curve,
+    Interval,
+    Success,
+    Failure,
+    ShortTerm,
+    InitDifficulty,
+    MeanReversion,
+    NextDifficulty,
+    NextState,
+    Sm2,
+    NextStateOn,
+    CheckRow,
+}
+
+impl List for Study {
+    const ROWS: &'static [Row<Study>] = &[
+        Row(b'c', "clamp", Study::Clamp),
+        Row(b'x', "max", Study::Max),
+        Row(b'n', "min", Study::Min),
+        Row(b'f', "is_finite", Study::IsFinite),
+        Row(b'i', "is_within", Study::IsWithin),
+        Row(b'o', "floor_stability", Study::FloorStability),
+        Row(b's', "clamp_stability", Study::ClampStability),
+        Row(b'v', "clamp_interval", Study::ClampInterval),
+        Row(b'd', "clamp_difficulty", Study::ClampDifficulty),
+        Row(b'p', "is_stability", Study::IsStability),
+        Row(b'q', "is_difficulty", Study::IsDifficulty),
+        Row(b't', "is_day", Study::IsDay),
+        Row(b'b', "weights_refusal", Study::WeightsRefusal),
+        Row(b'a', "all_finite", Study::AllFinite),
+        Row(b'u', "default_weights", Study::DefaultWeights),
+        Row(b'k', "copy_weights", Study::CopyWeights),
+        Row(b'F', "check_and_fill_parameters_fsrs6", Study::Fill),
+        Row(b'C', "power_forgetting_curve_scalar", Study::Curve),
+        Row(b'I', "next_interval_scalar", Study::Interval),
+        Row(b'S', "stability_after_success_scalar", Study::Success),
+        Row(b'L', "stability_after_failure_scalar", Study::Failure),
+        Row(b'T', "stability_short_term_scalar", Study::ShortTerm),
+        Row(b'E', "init_difficulty_scalar", Study::InitDifficulty),
+        Row(b'M', "mean_reversion_scalar", Study::MeanReversion),
+        Row(b'D', "next_difficulty_scalar", Study::NextDifficulty),
+        Row(b'N', "next_state_scalar", Study::NextState),
+        Row(b'P', "memory_state_from_sm2_scalar", Study::Sm2),
+        Row(b'O', "next_state_on_scalar", Study::NextStateOn),
+        Row(b'R', "check_row", Study::CheckRow),
+    ];
+
+    // A set of weights takes more words than numbers do.
+    fn is_call(self, words: &Words<'_>) -> bool {
+        words.is_of_length(match self {
+            Study::DefaultWeights | Study::CopyWeights | Study::Fill => 22,
+            Study::NextStateOn => 9,
+            Study::CheckRow => 10,
+            _ => 7,
+        })
     }
-}
 
-fn number_passes(letter: u8, k: &[u64; 640]) -> bool {
-    let x = f32_of(k[0]);
-    let y = f32_of(k[1]);
-    let z = f32_of(k[2]);
-    match letter {
-        b'c' => is_value(k, floats::clamp(x, y, z)),
-        b'x' => is_value(k, floats::max(x, y)),
-        b'n' => is_value(k, floats::min(x, y)),
-        b'f' => is_truth(k, floats::is_finite(x)),
-        b'i' => is_truth(k, floats::is_within(x, y, z)),
-        b'o' => is_value(k, limits::floor_stability(x)),
-        b's' => is_value(k, limits::clamp_stability(x)),
-        b'v' => is_value(k, limits::clamp_interval(x)),
-        b'd' => is_value(k, domain::difficulty::clamp_difficulty(x)),
-        b'p' => is_truth(k, limits::is_stability(x)),
-        b'q' => is_truth(k, domain::difficulty::is_difficulty(x)),
-        b't' => is_truth(k, limits::is_day(x)),
-        _ => false,
-    }
-}
-
-fn weights_pass(letter: u8, k: &[u64; 640], w: &[f32]) -> bool {
-    match letter {
-        b'b' => is_refusal(k, domain::weights::weights_refusal(w)),
-        b'a' => is_truth(k, domain::defaults::all_finite(w)),
-        b'u' => is_weights(k, domain::defaults::default_weights()),
-        b'k' => is_weights(k, domain::weights::copy_weights(w)),
-        b'F' => is_filled(k, model_v6::filling::check_and_fill_parameters_fsrs6(w)),
-        _ => false,
-    }
-}
-
-fn state_passes(k: &[u64; 640], w: &[f32]) -> bool {
-    let given = MemoryState {
-        stability: f32_of(k[0]),
-        difficulty: f32_of(k[1]),
-    };
-    is_next(
-        k,
-        state::next_state_scalar(w, given, f32_of(k[2]), u32_of(k[3])),
-    )
-}
-
-fn seen_passes(k: &[u64; 640], w: &[f32]) -> bool {
-    let state = MemoryState {
-        stability: f32_of(k[0]),
-        difficulty: f32_of(k[1]),
-    };
-    let given = Seen {
-        state,
-        day: u32_of(k[2]),
-    };
-    is_seen(
-        k,
-        next_state_on_scalar(w, given, u32_of(k[3]), u32_of(k[4])),
-    )
-}
-
-fn row_passes(k: &[u64; 640], w: &[f32]) -> bool {
-    let state = MemoryState {
-        stability: f32_of(k[0]),
-        difficulty: f32_of(k[1]),
-    };
-    let claimed = Claimed {
-        stability: u32_of(k[5]),
-        difficulty: u32_of(k[6]),
-        interval: u32_of(k[7]),
-    };
-    is_row(
-        k,
-        check_row(w, state, f32_of(k[2]), u32_of(k[3]), f32_of(k[4]), claimed),
-    )
-}
-
-fn model_passes(letter: u8, k: &[u64; 640], w: &[f32]) -> bool {
-    let x = f32_of(k[0]);
-    let y = f32_of(k[1]);
-    let z = f32_of(k[2]);
-    match letter {
-        b'C' => is_scalar(k, curve::power_forgetting_curve_scalar(w, x, y)),
-        b'I' => is_scalar(k, curve::next_interval_scalar(w, x, y)),
-        b'S' => is_scalar(
-            k,
-            model_v6::stability::stability_after_success_scalar(w, x, y, z, u32_of(k[3])),
-        ),
-        b'L' => is_scalar(
-            k,
-            model_v6::stability::stability_after_failure_scalar(w, x, y, z),
-        ),
-        b'T' => is_scalar(
-            k,
-            model_v6::stability::stability_short_term_scalar(w, x, u32_of(k[1])),
-        ),
-        b'E' => is_scalar(
-            k,
-            model_v6::difficulty::init_difficulty_scalar(w, u32_of(k[0])),
-        ),
-        b'M' => is_scalar(k, model_v6::difficulty::mean_reversion_scalar(w, x, y)),
-        b'D' => is_scalar(
-            k,
-            model_v6::difficulty::next_difficulty_scalar(w, x, u32_of(k[1])),
-        ),
-        b'N' => state_passes(k, w),
-        b'O' => seen_passes(k, w),
-        b'R' => row_passes(k, w),
-        b'P' => is_state(k, model_v6::sm2::memory_state_from_sm2_scalar(w, x, y, z)),
-        _ => false,
-    }
-}
-
-pub fn passes(letter: u8, k: &[u64; 640], w: &[f32]) -> bool {
-    match letter {
-        b'b' | b'a' | b'u' | b'k' | b'F' => weights_pass(letter, k, w),
-        b'A'..=b'Z' => model_passes(letter, k, w),
-        _ => number_passes(letter, k),
+    // Stays: each call takes other arguments, so that a closure for each would be no plainer.
+    fn passes(self, words: &Words<'_>, given: &Given) -> bool {
+        let w = given.weights();
+        let (x, y, z): (f32, f32, f32) = (words.at(0), words.at(1), words.at(2));
+        match self {
+            Study::Clamp => is_value(words, clamp(x, y, z)),
+            Study::Max => is_value(words, max(x, y)),
+            Study::Min => is_value(words, min(x, y)),
+            Study::IsFinite => is_value(words, is_finite(x)),
+            Study::IsWithin => is_value(words, is_within(x, y, z)),
+            Study::FloorStability => is_value(words, floor_stability(x)),
+            Study::ClampStability => is_value(words, clamp_stability(x)),
+            Study::ClampInterval => is_value(words, clamp_interval(x)),
+            Study::ClampDifficulty => is_value(words, clamp_difficulty(x)),
+            Study::IsStability => is_value(words, is_stability(x)),
+            Study::IsDifficulty => is_value(words, is_difficulty(x)),
+            Study::IsDay => is_value(words, is_day(x)),
+            Study::WeightsRefusal => words.is_refusal(4, &check_weights(w)),
+            Study::AllFinite => is_value(words, all_finite(w)),
+            Study::DefaultWeights => is_weights(words, &default_weights()),
+            Study::CopyWeights => is_weights(words, &copy_weights(w)),
+            Study::Fill => is_filled(words, check_and_fill_parameters_fsrs6(w)),
+            Study::Curve => is_scalar(words, power_forgetting_curve_scalar(w, x, y)),
+            Study::Interval => is_scalar(words, next_interval_scalar(w, x, y)),
+            Study::Success => is_scalar(
+                words,
+                stability_after_success_scalar(w, x, y, z, words.at(3)),
+            ),
+            Study::Failure => is_scalar(words, stability_after_failure_scalar(w, x, y, z)),
+            Study::ShortTerm => is_scalar(words, stability_short_term_scalar(w, x, words.at(1))),
+            Study::InitDifficulty => is_scalar(words, init_difficulty_scalar(w, words.at(0))),
+            Study::MeanReversion => is_scalar(words, mean_reversion_scalar(w, x, y)),
+            Study::NextDifficulty => is_scalar(words, next_difficulty_scalar(w, x, words.at(1))),
+            Study::NextState => is_next(
+                words,
+                next_state_scalar(w, state_of(words), z, words.at(3)),
+            ),
+            Study::Sm2 => is_state(words, memory_state_from_sm2_scalar(w, x, y, z)),
+            Study::NextStateOn => {
+                let seen = Seen {
+                    state: state_of(words),
+                    day: words.at(2),
+                };
+                is_seen(
+                    words,
+                    next_state_on_scalar(w, seen, words.at(3), words.at(4)),
+                )
+            }
+            Study::CheckRow => {
+                let claimed = Claimed {
+                    stability: words.at(5),
+                    difficulty: words.at(6),
+                    interval: words.at(7),
+                };
+                is_row(
+                    words,
+                    check_row(w, state_of(words), z, words.at(3), words.at(4), claimed),
+                )
+            }
+        }
     }
 }

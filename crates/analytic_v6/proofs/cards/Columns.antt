@@ -1,104 +1,74 @@
--- A card's walk over what it stored is the walk over its records and scores. Assumes nothing.
-use Prim.Native.Nat.{ℕ, ◌-◌, ◌≤◌}
-use mathlib.Core.List.{List}
-use mathlib.Core.Path.{◌≡◌, sym, ap, ◌∙◌}
-use native.Mathlib.Nat.{le_trans, ne_of_lt}
-use native.Mathlib.Omega.{arith}
-use borrow.Author.Tests.{eq-eqb, ne_eqb}
+-- A card with no row, and one with rows: its walk over the records and step gradients that it left is the walk over its steps and scores. Assumes nothing.
+use Rattle.std.proofs.Common.{◌≡◌, ℕ, ◌-◌, ◌≤◌, ◌<◌, List, length, get_or, set, ◌∙◌, arith, eq-eqb, ne_eqb, ne_of_lt, get_or-set_other}
 use lib.Ieee.{Float}
-use lib.ListN.{get_or, length, set}
-use lib.Seq.{get_or-set_other}
 use Rattle.domain.specs.Doubles.{zero64}
 use Rattle.forward.specs.declared.parameters.RuntimeParams.{RuntimeParams}
-use Rattle.checks.specs.Align.{first_of}
-use Rattle.checks.specs.Batch.{History, Cards, length_at, first_at, view, history_of, label_at, weight_at_def}
-use Rattle.columns.specs.Records.{room_def, load_def}
+use Rattle.forward.specs.declared.state.StepRecord.{StepRecord}
+use Rattle.checks.specs.Batch.{History, Cards, length_at, history, label_at, weight_at_def}
+use Rattle.checks.specs.declared.deck.Target.{Target}
 use Rattle.columns.specs.BackwardPass.{start_grad, back_def}
+use Rattle.columns.specs.ForwardPass.{record_at, score_at_def, run_at, grads_def}
 use Rattle.columns.specs.LastReview.{last_loss_def, last_grad, last_slots}
-use Rattle.columns.specs.ForwardPass.{record_at, stored_def, score_at_def, run_at, grads_def}
+use Rattle.columns.specs.Layouts.{left_by}
 use Rattle.columns.specs.declared.forward_pass.Run.{Run}
-use Rattle.columns.proofs.Kept.{path_read, grads_read, back_same}
-use Rattle.analytic_v6.specs.Cards.{card_loss_def, card_slots_def, card_records_def, card_grads_def}
+use Rattle.columns.proofs.Kept.{back_same, grads_read}
+use Rattle.analytic_v6.specs.Cards.{card_loss_def, card_slots_def, card_left, card_grads_def}
 
-module _ (p : RuntimeParams) (x : Cards) (column n : ℕ) (e : n ≡ length_at x.table column) where
-  -- a card with no row
-  module _ (z : n ≡ 0) where
-    none : length_at x.table column ≡ 0
-    none = sym e ∙ z
+module _ (p : RuntimeParams) (x : Cards) (column : ℕ) where
+  module _ (none : 1 ≤ length_at x.table column → ⊥) where
+    zero_rows : length_at x.table column ≡ 0
+    zero_rows = omega (arith, none)
 
     pub empty_loss : zero64 ≡ card_loss_def p x column
     unfolding card_loss_def
-    empty_loss = rw (eq-eqb _ 0 none)
+    empty_loss = rw (eq-eqb _ 0 zero_rows)
 
     pub empty_slots : (gw : List Float) → gw ≡ card_slots_def p x column gw
     unfolding card_slots_def
-    empty_slots gw = rw (eq-eqb _ 0 none)
+    empty_slots gw = rw (eq-eqb _ 0 zero_rows)
 
-    pub empty_records : (records : List Float) → records ≡ card_records_def p x column records
-    unfolding card_records_def stored_def
-    empty_records records = rw none
+    pub empty_left : {A : Type 0} (store : List A → ℕ → StepRecord → List A) (records : List A) → records ≡ card_left p x column store records
+    unfolding left_by
+    empty_left store records = rw zero_rows
 
     pub empty_grads : (step_grads : List Float) → step_grads ≡ card_grads_def p x column step_grads
     unfolding card_grads_def
-    empty_grads step_grads = rw (eq-eqb _ 0 none)
+    empty_grads step_grads = rw (eq-eqb _ 0 zero_rows)
 
-  -- a card with rows, whose first review is `first`
-  module _ (h : n ≡ 0 → ⊥) (first : ℕ) (f : first ≡ first_of x.table.align (view x.table.ratings x.table.columns column) n) where
-    abbrev hist : History
-    hist = history_of x.table.days x.table.ratings x.table.columns column first
+  -- a card with rows, its last row, its history, labels and weights
+  module _ (some : 1 ≤ length_at x.table column) (last : ℕ) (is-last : last ≡ length_at x.table column - 1)
+      (h : History) (is-history : h ≡ history x.table column)
+      (label : ℕ → Float) (is-label : label ≡ label_at x column) (weight : ℕ → Float) (is-weight : weight ≡ weight_at_def x column) where
+    rows : length_at x.table column ≡ 0 → ⊥
+    rows z = omega (arith, some, z)
 
-    found : first ≡ first_at x.table column
-    found = f ∙ ap (first_of x.table.align (view x.table.ratings x.table.columns column)) e
-
-    some : length_at x.table column ≡ 0 → ⊥
-    some z = h (e ∙ z)
-
-    pub records_of : (records : List Float) → stored_def p hist (n - 1) records ≡ card_records_def p x column records
-    unfolding card_records_def
-    records_of records = rw (found, e)
-
-    pub grads_of :
-        (step_grads : List Float) →
-        set (grads_def p hist (label_at x column) (weight_at_def x column) (n - 1) step_grads) (n - 1) zero64 ≡ card_grads_def p x column step_grads
+    pub grads_of : (step_grads : List Float) → set (grads_def p h label weight last step_grads) last zero64 ≡ card_grads_def p x column step_grads
     unfolding card_grads_def
-    grads_of step_grads = rw (ne_eqb _ 0 some, found, e)
+    grads_of step_grads = rw (ne_eqb _ 0 rows, is-last, is-history, is-label, is-weight)
 
-    module _ (run : Run) (number : ℕ) (day label weight : Float)
-        (en : number ≡ n - 1 - first) (er : run ≡ run_at p hist (label_at x column) (weight_at_def x column) (n - 1))
-        (ed : day ≡ hist.day (n - 1)) (el : label ≡ label_at x column (n - 1))
-        (ew : weight ≡ weight_at_def x column (n - 1)) where
-      pub loss_of : last_loss_def p number run.state.s day label weight run.loss ≡ card_loss_def p x column
+    -- the run of the rows before the last, and the last one's target
+    module _ (run : Run) (t : Target) (is-run : run ≡ run_at p h label weight last) (is-target : t ≡ record { day = h.day last; label = label last; weight = weight last }) where
+      pub loss_of : last_loss_def p (last - h.first) run.state.s t.day t.label t.weight run.loss ≡ card_loss_def p x column
       unfolding card_loss_def run_at
-      loss_of = rw (ne_eqb _ 0 some, en, er, ed, el, ew, found, e)
+      loss_of = rw (ne_eqb _ 0 rows, is-run, is-target, is-last, is-history, is-label, is-weight)
 
       walk_of :
           (gw : List Float) →
-          back_def p (record_at p hist)
-          (λ row. (score_at_def p hist (label_at x column) (weight_at_def x column) row).g_r)
-          (n - 1)
-          (start_grad (last_grad p number run.state.s day label weight))
-          (last_slots p number run.state.s day label weight gw) ≡
+          back_def p (record_at p h) (λ row. (score_at_def p h label weight row).g_r) last
+          (start_grad (last_grad p (last - h.first) run.state.s t.day t.label t.weight)) (last_slots p (last - h.first) run.state.s t.day t.label t.weight gw) ≡
           card_slots_def p x column gw
       unfolding card_slots_def run_at
-      walk_of gw = rw (ne_eqb _ 0 some, en, er, ed, el, ew, found, e)
+      walk_of gw = rw (ne_eqb _ 0 rows, is-run, is-target, is-last, is-history, is-label, is-weight)
 
       pub slots_of :
-          (records step_grads gw : List Float) → length_at x.table column ≤ room_def (length records) → length_at x.table column ≤ length step_grads →
-          back_def p (λ i. load_def i (stored_def p hist (n - 1) records))
-          (λ i. get_or (set (grads_def p hist (label_at x column) (weight_at_def x column) (n - 1) step_grads) (n - 1) zero64) i zero64)
-          (n - 1)
-          (start_grad (last_grad p number run.state.s day label weight))
-          (last_slots p number run.state.s day label weight gw) ≡
+          (records : ℕ → StepRecord) (step_grads gw : List Float) → ((i : ℕ) → i < last → records i ≡ record_at p h i) → length_at x.table column ≤ length step_grads →
+          back_def p records (λ i. get_or (set (grads_def p h label weight last step_grads) last zero64) i zero64) last
+          (start_grad (last_grad p (last - h.first) run.state.s t.day t.label t.weight)) (last_slots p (last - h.first) run.state.s t.day t.label t.weight gw) ≡
           card_slots_def p x column gw
-      slots_of records step_grads gw l m =
-          back_same p _ (record_at p hist) _
-          (λ row. (score_at_def p hist (label_at x column) (weight_at_def x column) row).g_r)
-          (n - 1)
-          (λ i k. path_read p _ (n - 1) i records (le_trans less l) k)
-          (λ i k. get_or-set_other (grads_def p hist (label_at x column) (weight_at_def x column) (n - 1) step_grads) (n - 1) i zero64 zero64 (ne_of_lt k) ∙ grads_read p _ _ _ (n - 1) i step_grads (le_trans less m) k)
-          _
-          _ ∙
+      slots_of records step_grads gw read fits =
+          back_same p records (record_at p h) _ (λ row. (score_at_def p h label weight row).g_r) last read
+          (λ i k. get_or-set_other (grads_def p h label weight last step_grads) last i zero64 zero64 (ne_of_lt k) ∙ grads_read p h label weight last i step_grads less k) _ _ ∙
           walk_of gw
         where
-          less : n - 1 ≤ length_at x.table column
-          less = omega (arith, e)
+          less : last ≤ length step_grads
+          less = omega (arith, fits, is-last)

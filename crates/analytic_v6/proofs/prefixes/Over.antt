@@ -1,74 +1,54 @@
--- One more prefix over the lent step records, and that where they have room the slots are the columns' own. Assumes nothing.
+-- The walk back over the lent records, in any layout: where they have room for every column's rows, the slots are the columns' own. Assumes nothing.
 use Prim.Native.Nat.{ℕ, zero, suc, ◌≤◌, ◌<◌}
 use mathlib.Core.List.{List}
 use mathlib.Core.Path.{◌≡◌, refl, sym, ap, subst, ◌∙◌}
 use native.Mathlib.Nat.{le_refl, le-suc, lt_of_lt_of_le}
 use lib.Ieee.{Float}
-use lib.ListN.{get_or, length}
-use Rattle.domain.specs.Doubles.{◌+ᵈ◌, zero64}
-use Rattle.domain.specs.Weights.{◌!◌}
+use lib.ListN.{length}
+use Rattle.domain.specs.Doubles.{zero64}
 use Rattle.forward.specs.declared.parameters.RuntimeParams.{RuntimeParams}
-use Rattle.forward.specs.declared.state.State.{State}
 use Rattle.forward.specs.declared.state.StepRecord.{StepRecord}
-use Rattle.checks.specs.Align.{target_weight_def}
-use Rattle.checks.specs.Batch.{History, Prefixes, length_at, history, history_of}
-use Rattle.checks.specs.Columns.{total, through}
-use Rattle.columns.specs.BackwardPass.{start_grad, back_def}
-use Rattle.columns.specs.LastReview.{target_loss_def, target_grad, target_slots}
-use Rattle.columns.specs.ForwardPass.{state_at, record_at}
-use Rattle.columns.specs.StepRecords.{no_step_def, steps_def}
-use Rattle.columns.specs.declared.last_review.Ending.{Ending}
+use Rattle.checks.specs.Batch.{Prefixes, length_at, history}
+use Rattle.checks.specs.Columns.{through}
+use Rattle.columns.specs.ForwardPass.{record_at}
+use Rattle.columns.specs.Layouts.{LayoutLaws, steps_room, store_steps, load_steps, steps_laws}
 use Rattle.columns.proofs.Kept.{back_same}
-use Rattle.columns.proofs.step_records.Steps.{steps_length, steps_read}
-use Rattle.analytic_v6.specs.Prefixes.{prefix_loss_def, prefix_slots_def, prefix_steps_def}
-use Rattle.analytic_v6.specs.inner.Over.{prefix_back, slots_over}
-use Rattle.analytic_v6.specs.inner.Rows.{rows_def}
-use Rattle.analytic_v6.specs.declared.rows.Rows.{Rows}
+use Rattle.columns.proofs.Left.{left_length, left_read, left_in_steps}
+use Rattle.analytic_v6.specs.Prefixes.{prefix_slots_def, prefix_steps_def, prefix_left}
+use Rattle.analytic_v6.specs.inner.Over.{prefix_back, slots_over, prefix_back_in, slots_over_in}
+use Rattle.analytic_v6.proofs.Left.{through_same}
 
 module _ (p : RuntimeParams) (x : Prefixes) where
-  -- what a turn has called gives the next column
-  module _ (recs recs₁ : List StepRecord) (gw gw₁ gw₂ : List Float) (c : ℕ) (rows : Rows) (q : State) (end : Ending)
-      (er : rows ≡ rows_def x.table.align x.table.ratings x.table.rows x.table.columns x.table.lengths c) where
-    abbrev hist : History
-    hist = history_of x.table.days x.table.ratings x.table.columns c rows.first
+  module _ {A : Type 0} (room : ℕ → ℕ) (store : List A → ℕ → StepRecord → List A) (load : List A → ℕ → StepRecord) (laws : LayoutLaws room store load) where
+    left_kept : (columns : ℕ) (recs : List A) → length (through (λ k. prefix_left p x k store) columns recs) ≡ length recs
+    unfolding through
+    left_kept zero recs = refl
+    left_kept (suc c) recs = left_length p (history x.table c) store room load laws (length_at x.table c) _ ∙ left_kept c recs
 
-    abbrev weight : Float
-    weight = target_weight_def x.table.align rows.first rows.n (x.weights ! c)
+    column_own : (c : ℕ) (recs : List A) (gw : List Float) → length_at x.table c ≤ room (length recs) → prefix_back_in p x store load c (prefix_left p x c store recs) gw ≡ prefix_slots_def p x c gw
+    unfolding prefix_back_in prefix_slots_def
+    column_own c recs gw l =
+        back_same p _ (record_at p (history x.table c)) _ (λ row. zero64) (length_at x.table c)
+        (λ i h. left_read p (history x.table c) store room load laws (length_at x.table c) i recs l h)
+        (λ i h. refl)
+        _
+        _
 
-    module _ (eq : (q ≡ state_at p hist rows.n) × (recs₁ ≡ steps_def p hist rows.n (through (prefix_steps_def p x) c recs))) where
-      pub next_steps : recs₁ ≡ through (prefix_steps_def p x) (suc c) recs
-      unfolding through prefix_steps_def rows_def
-      next_steps = rw (eq.1, er)
+    pub over_own_in : (columns : ℕ) (recs : List A) (gw : List Float) → ((c : ℕ) → c < columns → length_at x.table c ≤ room (length recs)) → slots_over_in p x store load columns recs gw ≡ through (prefix_slots_def p x) columns gw
+    unfolding slots_over_in through
+    over_own_in zero recs gw fits = refl
+    over_own_in (suc c) recs gw fits =
+        column_own c (through (λ k. prefix_left p x k store) c recs) _ (subst (λ (m : ℕ). length_at x.table c ≤ room m) (sym (left_kept c recs)) (fits c (le_refl (suc c)))) ∙
+        ap (λ (z : List Float). prefix_slots_def p x c z) (over_own_in c recs gw (λ k h. fits k (lt_of_lt_of_le h (le-suc c))))
 
-      module _
-          (ee :
-          (end ≡ record { loss = total (prefix_loss_def p x) c +ᵈ target_loss_def p q.s (x.days ! c) (x.labels ! c) weight; g_s = target_grad p q.s (x.days ! c) (x.labels ! c) weight }) ×
-          (gw₁ ≡ target_slots p q.s (x.days ! c) (x.labels ! c) weight (slots_over p x c recs gw))) where
-        pub next_loss : end.loss ≡ total (prefix_loss_def p x) (suc c)
-        unfolding total prefix_loss_def rows_def
-        next_loss = rw (ee.0, eq.0, er)
+  steps_left : (k : ℕ) (ys : List StepRecord) → prefix_steps_def p x k ys ≡ prefix_left p x k store_steps ys
+  unfolding prefix_steps_def
+  steps_left k ys = sym (left_in_steps p (history x.table k) (length_at x.table k) ys)
 
-        pub next_slots : gw₂ ≡ back_def p (λ i. get_or recs₁ i no_step_def) (λ i. zero64) rows.n (start_grad end.g_s) gw₁ → gw₂ ≡ slots_over p x (suc c) recs gw
-        unfolding slots_over prefix_back rows_def
-        next_slots eb = rw (eb, ee.1, ee.0, next_steps, eq.0, er)
-
-  steps_kept : (columns : ℕ) (recs : List StepRecord) → length (through (prefix_steps_def p x) columns recs) ≡ length recs
-  unfolding through prefix_steps_def
-  steps_kept zero recs = refl
-  steps_kept (suc c) recs = steps_length p (history x.table c) (length_at x.table c) _ ∙ steps_kept c recs
-
-  column_own : (c : ℕ) (recs : List StepRecord) (gw : List Float) → length_at x.table c ≤ length recs → prefix_back p x c (prefix_steps_def p x c recs) gw ≡ prefix_slots_def p x c gw
-  unfolding prefix_back prefix_steps_def prefix_slots_def
-  column_own c recs gw l =
-      back_same p _ (record_at p (history x.table c)) _ (λ row. zero64) (length_at x.table c)
-      (λ i h. steps_read p (history x.table c) (length_at x.table c) i recs l h)
-      (λ i h. refl)
-      _
-      _
+  over_steps : (columns : ℕ) (recs : List StepRecord) (gw : List Float) → slots_over p x columns recs gw ≡ slots_over_in p x store_steps load_steps columns recs gw
+  unfolding slots_over slots_over_in prefix_back prefix_back_in
+  over_steps zero recs gw = refl
+  over_steps (suc c) recs gw = rw (over_steps c recs gw, through_same (prefix_steps_def p x) (λ k. prefix_left p x k store_steps) steps_left (suc c) recs)
 
   pub over_own : (columns : ℕ) (recs : List StepRecord) (gw : List Float) → ((c : ℕ) → c < columns → length_at x.table c ≤ length recs) → slots_over p x columns recs gw ≡ through (prefix_slots_def p x) columns gw
-  unfolding slots_over through
-  over_own zero recs gw room = refl
-  over_own (suc c) recs gw room =
-      column_own c (through (prefix_steps_def p x) c recs) _ (subst (λ (m : ℕ). length_at x.table c ≤ m) (sym (steps_kept c recs)) (room c (le_refl (suc c)))) ∙
-      ap (λ (z : List Float). prefix_slots_def p x c z) (over_own c recs gw (λ k h. room k (lt_of_lt_of_le h (le-suc c))))
+  over_own columns recs gw room = over_steps columns recs gw ∙ over_own_in steps_room store_steps load_steps steps_laws columns recs gw room

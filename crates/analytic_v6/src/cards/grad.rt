@@ -1,192 +1,73 @@
-// The loss with its gradient, over a lent slice of step records.
-ghost use Rattle.std.specs.Prelude.{◌≡◌, cond, ◌-◌, eqb, length, set};
-ghost use Rattle.domain.specs.Doubles.{◌+ᵈ◌, zero64};
-ghost use Rattle.checks.specs.Columns.{total, through};
-ghost use Rattle.checks.specs.Batch.{view, weights_of, cards_in_def, cards_of};
-ghost use Rattle.columns.specs.LastReview.{last_loss_def, last_grad, last_slots};
-ghost use Rattle.analytic_v6.specs.Cards.{card_loss_def, card_steps_def, card_grads_def, cards_loss_and_grad, CardsLeave};
-ghost use Rattle.analytic_v6.specs.inner.Over.{card_slots_over};
+//! The card loss with its gradient.
+ghost use Rattle.std.specs.Prelude.{◌≡◌, ◌≤◌, length};
+ghost use Rattle.checks.specs.Batch.{length_at};
+ghost use Rattle.checks.specs.Decks.{cards_now};
+ghost use Rattle.analytic_v6.specs.Cards.{card_loss_def, card_slots_def, card_grads_def, card_left, cards_loss_and_grad, cards_slots, cards_left, cards_grads};
+ghost use Rattle.analytic_v6.specs.Results.{answered};
 
-use crate::answers::Loss;
-use crate::rows::{Rows, params_of, rows_of};
-use checks::align::{Align, row_from, weight_at};
-use checks::refusals::card_grad_refusal;
-use checks::tables::{cell_of, write_f64};
-use checks::view::cell_at;
-use columns::forward_pass::Run;
-use columns::last_review::{Ending, last_end};
-use columns::step_records::{card_forward_steps, column_backward_steps};
+use checks::deck::Cards;
+use checks::places::card_loss_and_grad_fault;
+use checks::tables::put_cell;
+use columns::backward_pass::column_backward;
+use columns::forward_pass::card_forward_recorded;
+use columns::last_review::last_end;
+use columns::layout::Layout;
+use domain::refusal::Refusal;
+use domain::weights::copy_weights;
 use forward::parameters::RuntimeParams;
-use forward::state::StepRecord;
 
-// A card's last row, after the run of the rows before it; the card's loss is added. A card of no rows has none.
-fn last_at(
-    p: RuntimeParams,
-    align: Align,
-    rows: Rows,
-    run: Run,
-    loss: f64,
-    t_hist: &[f32],
-    r_hist: &[f32],
-    batch: u32,
-    labels: &[f32],
-    weights: &[f32],
+// `card_column_loss_and_grad`: forward into the records and step gradients, the last row, which is scored by itself, and backward
+// over the records. A card of no rows has none.
+fn column_loss_and_grad<L: Layout>(
+    p: &RuntimeParams,
+    deck: &Cards<'_>,
     column: u32,
     gw: &mut [f64],
-    step_grads: &mut [f64],
-) -> Ending
-    ensures { let number = rows.last - rows.first in
-        let s = run.state.s in
-        let day = view t_hist.now batch column rows.last in
-        let label = view labels.now batch column rows.last in
-        let weight = weights_of align r_hist.now weights.now batch column rows.last in
-        (result ≡ record {
-          loss = loss +ᵈ cond (eqb rows.n 0) zero64 (last_loss_def p number s day label weight run.loss);
-          g_s = cond (eqb rows.n 0) zero64 (last_grad p number s day label weight);
-        }) ×
-        (gw.new ≡ cond (eqb rows.n 0) gw.old (last_slots p number s day label weight gw.old)) ×
-        (step_grads.new ≡ cond (eqb rows.n 0) step_grads.old (set step_grads.old rows.last zero64)) }
-{
-    if rows.n == 0 {
-        return Ending {
-            loss: loss + 0.0,
-            g_s: 0.0,
-        };
-    }
-    let state = run.state;
-    let day = cell_at(t_hist, batch, column, rows.last);
-    let label = cell_at(labels, batch, column, rows.last);
-    let k = cell_of(rows.last, batch, column);
-    let weight = weight_at(align, r_hist, weights, k);
-    let number = row_from(rows.last, rows.first);
-    write_f64(step_grads, rows.last as usize, 0.0);
-    let end = last_end(p, number, state.s, day, label, weight, run.loss, gw);
-    Ending {
-        loss: loss + end.loss,
-        g_s: end.g_s,
-    }
-}
-
-fn batch_total_and_grad(
-    p: RuntimeParams,
-    align: Align,
-    t_hist: &[f32],
-    r_hist: &[f32],
-    seq_len: u32,
-    batch: u32,
-    seq_lens: &[u32],
-    labels: &[f32],
-    weights: &[f32],
-    gw: &mut [f64],
-    records: &mut [StepRecord],
+    records: &mut [L::Cell],
     step_grads: &mut [f64],
 ) -> f64
-    ensures { let x = cards_in_def align t_hist.now r_hist.now seq_len batch seq_lens.now
-        labels.now weights.now in
-        (result ≡ total (card_loss_def p x) batch) ×
-        (gw.new ≡ card_slots_over p x batch records.old step_grads.old gw.old) ×
-        (records.new ≡ through (card_steps_def p x) batch records.old) ×
-        (step_grads.new ≡ through (card_grads_def p x) batch step_grads.old) }
+    requires records_fit { length_at (cards_now deck.now).table column ≤ L.room (length records.old) }
+    requires step_grads_fit { length_at (cards_now deck.now).table column ≤ length step_grads.old }
+    ensures loss { result ≡ card_loss_def p.now (cards_now deck.now) column }
+    ensures slots { gw.new ≡ card_slots_def p.now (cards_now deck.now) column gw.old }
+    ensures records { records.new ≡ card_left p.now (cards_now deck.now) column L.store records.old }
+    ensures step_grads { step_grads.new ≡ card_grads_def p.now (cards_now deck.now) column step_grads.old }
 {
-    let mut loss = 0.0;
-    let mut c = 0;
-    while c < batch {
-        let rows = rows_of(align, r_hist, seq_len, batch, seq_lens, c);
-        let run = card_forward_steps(
-            p, align, t_hist, r_hist, batch, labels, weights, c, rows.first, rows.last, records,
-            step_grads,
-        );
-        let end = last_at(
-            p, align, rows, run, loss, t_hist, r_hist, batch, labels, weights, c, gw, step_grads,
-        );
-        column_backward_steps(p, records, step_grads, rows.last, end.g_s, gw);
-        loss = end.loss;
-        c += 1;
-    }
-    loss
+    let Some(last) = deck.table.length(column).checked_sub(1) else {
+        return 0.0;
+    };
+    let card = deck.card(column);
+    let run = card_forward_recorded::<L>(p, &card, last, records, step_grads);
+    let number = last.saturating_sub(card.history.first);
+    let end = last_end(p, number, run.state.s, card.target(last), run.loss, gw);
+    put_cell(step_grads, last as usize, 0.0);
+    column_backward::<L>(p, records, step_grads, last, end.g_s, gw);
+    end.loss
 }
 
-// The same loss, and its gradient added into the 21 slots of `gw`. `records` and `step_grads` are lent for one card at a
-// time: a record and a double for each row. A refused call changes none of the three.
-pub fn card_loss_and_grad_in(
-    align: Align,
+// Stays: no plainer: `gw`, `records` and `step_grads` are lent one by one, for a struct that holds `&mut` slices loses their cells.
+/// `card_loss_and_grad`: the same loss, and its gradient added into the 21 slots of `gw`. `records` and `step_grads` are lent for
+/// one card at a time, a record, in the layout that the caller names, and a double for each row. Refused as
+/// `card_loss_and_grad_fault` says, and a refused call changes none of the three.
+#[tactic(auto, using(crate::proofs::Calls::cards_with_grad))]
+pub fn card_loss_and_grad<L: Layout>(
     w: &[f32],
-    t_hist: &[f32],
-    r_hist: &[f32],
-    seq_len: u32,
-    batch: u32,
-    seq_lens: &[u32],
-    labels: &[f32],
-    weights: &[f32],
+    deck: &Cards<'_>,
     gw: &mut [f64],
-    records: &mut [StepRecord],
+    records: &mut [L::Cell],
     step_grads: &mut [f64],
-) -> Loss
-    ensures { let x = cards_in_def align t_hist.now r_hist.now seq_len batch seq_lens.now
-        labels.now weights.now in
-        (result ≡ cards_loss_and_grad w.now x (length gw.old) (length records.old)
-        (length step_grads.old)) ×
-        CardsLeave w.now x gw.old records.old step_grads.old gw.new
-        records.new step_grads.new }
+) -> Result<f64, Refusal>
+    ensures loss { answered result ≡ cards_loss_and_grad w.now (cards_now deck.now) (length gw.old) (L.room (length records.old)) (length step_grads.old) }
+    ensures slots { gw.new ≡ cards_slots w.now (cards_now deck.now) gw.old (L.room (length records.old)) (length step_grads.old) }
+    ensures records { records.new ≡ cards_left L.room L.store w.now (cards_now deck.now) (length gw.old) records.old (length step_grads.old) }
+    ensures step_grads { step_grads.new ≡ cards_grads w.now (cards_now deck.now) (length gw.old) (L.room (length records.old)) step_grads.old }
 {
-    let n = card_grad_refusal(
-        align,
-        w,
-        t_hist,
-        r_hist,
-        seq_len,
-        batch,
-        seq_lens,
-        labels,
-        weights,
-        gw.len(),
-        records.len(),
-        step_grads.len(),
-    );
+    card_loss_and_grad_fault(w, deck, gw.len(), L::room(records.len()), step_grads.len())?;
+    // Stays: the fault function has tested the weights and hands none back; a `Weights` made here would test them again.
+    let p = RuntimeParams::new(&copy_weights(w));
     let mut loss = 0.0;
-    if n == 0 {
-        let p = params_of(w);
-        loss = batch_total_and_grad(
-            p, align, t_hist, r_hist, seq_len, batch, seq_lens, labels, weights, gw, records,
-            step_grads,
-        );
+    for column in 0..deck.table.columns {
+        loss += column_loss_and_grad::<L>(&p, deck, column, gw, records, step_grads);
     }
-    Loss { refusal: n, loss }
-}
-
-// Where histories stand at the start, as in the Rust.
-pub fn card_loss_and_grad(
-    w: &[f32],
-    t_hist: &[f32],
-    r_hist: &[f32],
-    seq_len: u32,
-    batch: u32,
-    seq_lens: &[u32],
-    labels: &[f32],
-    weights: &[f32],
-    gw: &mut [f64],
-    records: &mut [StepRecord],
-    step_grads: &mut [f64],
-) -> Loss
-    ensures { let x = cards_of t_hist.now r_hist.now seq_len batch seq_lens.now
-        labels.now weights.now in
-        (result ≡ cards_loss_and_grad w.now x (length gw.old) (length records.old)
-        (length step_grads.old)) ×
-        CardsLeave w.now x gw.old records.old step_grads.old gw.new
-        records.new step_grads.new }
-{
-    card_loss_and_grad_in(
-        Align::Start,
-        w,
-        t_hist,
-        r_hist,
-        seq_len,
-        batch,
-        seq_lens,
-        labels,
-        weights,
-        gw,
-        records,
-        step_grads,
-    )
+    Ok(loss)
 }

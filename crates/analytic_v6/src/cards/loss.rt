@@ -1,133 +1,42 @@
-// The card loss of analytic_v6.rs alone.
+//! The card loss alone.
 ghost use Rattle.std.specs.Prelude.{◌≡◌};
-ghost use Rattle.checks.specs.Columns.{total};
-ghost use Rattle.checks.specs.Batch.{cards_in_def, cards_of};
+ghost use Rattle.checks.specs.Decks.{cards_now};
 ghost use Rattle.analytic_v6.specs.Cards.{card_loss_def, cards_loss};
+ghost use Rattle.analytic_v6.specs.Results.{answered};
 
-use crate::answers::Loss;
-use checks::align::{Align, first_review, row_from, weight_at};
-use checks::refusals::card_loss_refusal;
-use checks::tables::{cell_of, cut_length};
-use checks::view::cell_at;
+use checks::deck::Cards;
+use checks::places::card_loss_fault;
 use columns::forward_pass::card_forward;
 use columns::last_review::last_loss;
+use domain::refusal::Refusal;
 use domain::weights::copy_weights;
-use forward::parameters::{RuntimeParams, runtime_params};
+use forward::parameters::RuntimeParams;
 
-fn column_loss(
-    p: RuntimeParams,
-    align: Align,
-    t_hist: &[f32],
-    r_hist: &[f32],
-    seq_len: u32,
-    batch: u32,
-    seq_lens: &[u32],
-    labels: &[f32],
-    weights: &[f32],
-    column: u32,
-) -> f64
-    ensures { result ≡ card_loss_def p (cards_in_def align t_hist.now r_hist.now seq_len batch seq_lens.now
-        labels.now weights.now) column }
+// One column of `card_column_loss_and_grad`. The last row is scored by itself, after the run of the rows before it. A card of no rows has none.
+fn column_loss(p: &RuntimeParams, deck: &Cards<'_>, column: u32) -> f64
+    ensures { result ≡ card_loss_def p.now (cards_now deck.now) column }
 {
-    let n = cut_length(seq_lens, seq_len, column);
-    if n == 0 {
+    let Some(last) = deck.table.length(column).checked_sub(1) else {
         return 0.0;
-    }
-    let m = n - 1;
-    let first = first_review(align, r_hist, batch, column, n);
-    let run = card_forward(
-        p, align, t_hist, r_hist, batch, labels, weights, column, first, m,
-    );
-    let state = run.state;
-    let day = cell_at(t_hist, batch, column, m);
-    let label = cell_at(labels, batch, column, m);
-    let k = cell_of(m, batch, column);
-    let weight = weight_at(align, r_hist, weights, k);
-    let number = row_from(m, first);
-    last_loss(p, number, state.s, day, label, weight, run.loss)
+    };
+    let card = deck.card(column);
+    let run = card_forward(p, &card, last);
+    let number = last.saturating_sub(card.history.first);
+    last_loss(p, number, run.state.s, card.target(last), run.loss)
 }
 
-fn batch_total(
-    p: RuntimeParams,
-    align: Align,
-    t_hist: &[f32],
-    r_hist: &[f32],
-    seq_len: u32,
-    batch: u32,
-    seq_lens: &[u32],
-    labels: &[f32],
-    weights: &[f32],
-) -> f64
-    ensures { result ≡ total (card_loss_def p (cards_in_def align t_hist.now r_hist.now seq_len batch seq_lens.now
-        labels.now weights.now)) batch }
+/// The loss of `card_loss_and_grad` alone: that of a batch of cards, its columns added in their order. Nothing is lent to it but
+/// what it reads. Refused as `card_loss_fault` says.
+#[tactic(auto, using(crate::proofs::Calls::cards_alone))]
+pub fn card_loss(w: &[f32], deck: &Cards<'_>) -> Result<f64, Refusal>
+    ensures { answered result ≡ cards_loss w.now (cards_now deck.now) }
 {
+    card_loss_fault(w, deck)?;
+    // Stays: the fault function has tested the weights and hands none back; a `Weights` made here would test them again.
+    let p = RuntimeParams::new(&copy_weights(w));
     let mut loss = 0.0;
-    let mut c = 0;
-    while c < batch {
-        let part = column_loss(
-            p, align, t_hist, r_hist, seq_len, batch, seq_lens, labels, weights, c,
-        );
-        loss = loss + part;
-        c += 1;
+    for column in 0..deck.table.columns {
+        loss += column_loss(&p, deck, column);
     }
-    loss
-}
-
-// The summed loss of a batch of cards that stand where `align` says. Nothing is lent to it but what it reads.
-pub fn card_loss_in(
-    align: Align,
-    w: &[f32],
-    t_hist: &[f32],
-    r_hist: &[f32],
-    seq_len: u32,
-    batch: u32,
-    seq_lens: &[u32],
-    labels: &[f32],
-    weights: &[f32],
-) -> Loss
-    ensures { result ≡ cards_loss w.now (cards_in_def align t_hist.now r_hist.now seq_len batch
-        seq_lens.now labels.now weights.now) }
-{
-    let n = card_loss_refusal(
-        align, w, t_hist, r_hist, seq_len, batch, seq_lens, labels, weights,
-    );
-    if n != 0 {
-        return Loss {
-            refusal: n,
-            loss: 0.0,
-        };
-    }
-    let v = copy_weights(w);
-    let p = runtime_params(&v);
-    let loss = batch_total(
-        p, align, t_hist, r_hist, seq_len, batch, seq_lens, labels, weights,
-    );
-    Loss { refusal: 0, loss }
-}
-
-// Where histories stand at the start, as in the Rust.
-pub fn card_loss(
-    w: &[f32],
-    t_hist: &[f32],
-    r_hist: &[f32],
-    seq_len: u32,
-    batch: u32,
-    seq_lens: &[u32],
-    labels: &[f32],
-    weights: &[f32],
-) -> Loss
-    ensures { result ≡ cards_loss w.now (cards_of t_hist.now r_hist.now seq_len batch
-        seq_lens.now labels.now weights.now) }
-{
-    card_loss_in(
-        Align::Start,
-        w,
-        t_hist,
-        r_hist,
-        seq_len,
-        batch,
-        seq_lens,
-        labels,
-        weights,
-    )
+    Ok(loss)
 }

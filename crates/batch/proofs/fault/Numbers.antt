@@ -6,16 +6,14 @@ use mathlib.Core.List.{List}
 use lib.Dec.{eqb}
 use lib.Ieee.{Float}
 use Rattle.domain.specs.Doubles.{zero64}
-use Rattle.checks.specs.declared.fault.Fault.{Fault}
 use Rattle.checks.proofs.Placed.{prefix_grad_number, card_grad_number}
 use Rattle.analytic_v6.specs.Answers.{answer}
 use Rattle.analytic_v6.specs.Prefixes.{batch_loss_and_grad_def}
 use Rattle.analytic_v6.specs.Cards.{cards_loss_and_grad}
-use Rattle.analytic_v6.specs.declared.answers.Loss.{Loss}
-use Rattle.batch.specs.Header.{sections_of, well_formed_def}
+use Rattle.analytic_v6.specs.Results.{Loss}
+use Rattle.batch.specs.Header.{Header, sections_of, well_formed_def}
 use Rattle.batch.specs.File.{rows_of, cells_of, lengths_of, prefix_loss_in, card_loss_in_def, call_loss, file_loss, prefix_fault_in, card_fault_in, call_fault_def, file_fault_def}
-use Rattle.batch.specs.declared.header.Header.{Header}
-use Rattle.checks.specs.Faults.{unplaced}
+use Rattle.checks.specs.Faults.{Fault, unplaced}
 
 either_way : (b : Bool) (f g : Fault) (x y : Loss) → f.refusal ≡ x.refusal → g.refusal ≡ y.refusal → (cond b f g).refusal ≡ (cond b x y).refusal
 either_way true f g x y p q = p

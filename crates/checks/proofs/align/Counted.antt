@@ -53,3 +53,9 @@ module _ (align : Align) (rating rating' : Float) (r : is_end_def align ≡ true
       go : (b : Bool) → b ≡ counts align rating → cond b weight zero32 ≡ cond b weight' zero32
       go true e = h (sym e)
       go false e = refl
+
+-- over a column
+pub weights_same :
+    (align : Align) (ratings ratings' weights weights' : ℕ → Float) → ratings ≡ ratings' → weights ≡ weights' →
+    ◌≡◌ {A = ℕ → Float} (λ row. weighed align (ratings row) (weights row)) (λ row. weighed align (ratings' row) (weights' row))
+weights_same align ratings ratings' weights weights' r w = λ i row. weighed align (r i row) (w i row)

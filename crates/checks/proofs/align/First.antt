@@ -82,6 +82,21 @@ module _ (rating : ℕ → Float) where
   pub found_at : (k n : ℕ) → k < n → found k ≡ k → non_zero (rating k) ≡ true → found n ≡ k
   found_at k n l e h = subst (λ (m : ℕ). found m ≡ k) (add-sub_of_le l) (stays k _ e h)
 
+-- the search in either mode
+pub searched_at : (align : Align) (rating : ℕ → Float) (k n : ℕ) → k < n → true ≡ is_end_def align → first_non_zero rating k ≡ k → true ≡ non_zero (rating k) → k ≡ first_of align rating n
+unfolding first_of
+searched_at align rating k n l m e h = rw (← m) (sym (found_at rating k n l e (sym h)))
+
+pub searched_all : (align : Align) (rating : ℕ → Float) (n : ℕ) → true ≡ is_end_def align → first_non_zero rating n ≡ n → n ≡ first_of align rating n
+unfolding first_of
+searched_all align rating n m e = rw (← m) (sym e)
+
+pub unsearched : (align : Align) (rating : ℕ → Float) (n : ℕ) → false ≡ is_end_def align → 0 ≡ first_of align rating n
+unfolding first_of
+unsearched align rating n m = rw (← m)
+
+pub ruleset finding = (none_found, none_more, searched_at, searched_all, unsearched)
+
 -- it depends on the ratings alone
 pub firsts_same : (f g : ℕ → Float) (n : ℕ) → ((row : ℕ) → row < n → f row ≡ g row) → first_non_zero f n ≡ first_non_zero g n
 unfolding first_non_zero

@@ -1,79 +1,85 @@
--- The search for the first fault: one more place without one, the place that has it, and none at all. Assumes nothing.
+-- The search for the first fault: none in the first places, one more place without one, and the place that has it. Assumes nothing.
 use Prim.Native.Nat.{ℕ, zero, suc, ◌+◌, ◌<◌}
-use mathlib.Core.Bool.{Bool, true, false, cond}
 use mathlib.Core.Path.{◌≡◌, refl, sym, ap, ◌∙◌, subst}
 use native.Mathlib.Nat.{add-sub_of_le, add-zero, add-suc}
 use native.Mathlib.Numerals.{add-one}
-use borrow.Author.Tests.{eq-eqb, ne_eqb}
-use lib.Dec.{T, eqb}
-use Rattle.checks.specs.Faults.{no_fault_def, fault_at_def, or_else, first_fault_def}
-use Rattle.checks.specs.declared.fault.Fault.{Fault}
+use borrow.Author.Tests.{ne_eqb}
+use Rattle.checks.specs.Faults.{Fault, no_fault_def, or_else, first_fault_def, fault_at_def, rows_fault, placed}
+use Rattle.checks.specs.declared.fault.Place.{Place}
+use Rattle.domain.proofs.Refusals.{never_0}
+use Rattle.domain.specs.Refusals.{number}
+use Rattle.domain.specs.declared.refusal.Refusal.{Refusal}
+use Rattle.std.specs.Prelude.{Option, Some, None}
 
--- a fault without a number is none
-abbrev pub Blank : Fault → Type 0
-Blank x = x.refusal ≡ 0 → x ≡ no_fault_def
+abbrev pub none : Fault
+none = record { refusal = 0; column = 0; row = 0 }
 
-pub none_blank : Blank no_fault_def
-none_blank e = refl
+-- a refusal is a fault, wherever it is
+refusal_placed : (n : ℕ) (p : Option Place) → (placed n p).refusal ≡ n
+refusal_placed n None = refl
+refusal_placed n (Some p) = refl
 
-pub pick_blank : (b : Bool) (x y : Fault) → Blank x → Blank y → Blank (cond b x y)
-pick_blank true x y h k = h
-pick_blank false x y h k = k
+pub is_found : (e : Refusal) (p : Option Place) (x : Fault) → placed (number e) p ≡ x → x.refusal ≡ 0 → ⊥
+is_found e p x h z = never_0 e (sym (refusal_placed (number e) p) ∙ ap (λ (y : Fault). y.refusal) h ∙ z)
 
-place_blank : (b : Bool) (n column row : ℕ) → b ≡ eqb n 0 → Blank (cond b no_fault_def (record { refusal = n; column = column; row = row }))
-place_blank true n column row e h = refl
-place_blank false n column row e h = absurd (subst T (sym (e ∙ eq-eqb n 0 h)) tt)
-
-pub at_blank : (n column row : ℕ) → Blank (fault_at_def n column row)
-unfolding fault_at_def
-at_blank n column row = place_blank (eqb n 0) n column row refl
-
-pub else_blank : (x y : Fault) → Blank x → Blank y → Blank (or_else x y)
+pub failed : (e : Refusal) (p : Option Place) (a b : Fault) → placed (number e) p ≡ a → placed (number e) p ≡ or_else a b
 unfolding or_else
-else_blank x y h k = pick_blank (eqb x.refusal 0) y x k h
+failed e p a b h = rw (ne_eqb _ 0 (is_found e p a h)) h
 
-pub first_blank : (f : ℕ → Fault) → ((k : ℕ) → Blank (f k)) → (n : ℕ) → Blank (first_fault_def f n)
-unfolding first_fault_def
-first_blank f h zero = none_blank
-first_blank f h (suc k) = else_blank (first_fault_def f k) (f k) (first_blank f h k) (h k)
-
-pub no_place : (f : ℕ → Fault) → first_fault_def f 0 ≡ no_fault_def
-unfolding first_fault_def
-no_place f = refl
-
-none_else : (x : Fault) → or_else no_fault_def x ≡ x
-unfolding or_else no_fault_def
-none_else x = refl
-
-pub else_found : (x y : Fault) → (x.refusal ≡ 0 → ⊥) → or_else x y ≡ x
+pub passed : (x a b : Fault) → none ≡ a → x ≡ b → x ≡ or_else a b
 unfolding or_else
-else_found x y h = rw (ne_eqb _ 0 h)
+passed x a b z h = rw (← z) h
 
-pub else_none : (x y : Fault) → x.refusal ≡ 0 → or_else x y ≡ y
-unfolding or_else
-else_none x y e = rw (eq-eqb _ 0 e)
+pub ruleset chain = (failed, passed)
 
-next : (f : ℕ → Fault) (k : ℕ) → first_fault_def f k ≡ no_fault_def → first_fault_def f (suc k) ≡ f k
-unfolding first_fault_def
-next f k e = rw e (none_else (f k))
+module _ (f : ℕ → Fault) where
+  pub none_yet : none ≡ first_fault_def f 0
+  unfolding first_fault_def no_fault_def
+  none_yet = refl
 
-pub more : (f : ℕ → Fault) (k : ℕ) → first_fault_def f k ≡ no_fault_def → f k ≡ no_fault_def → first_fault_def f (k + 1) ≡ no_fault_def
-more f k e h = rw (add-one k) (next f k e ∙ h)
+  next : (k : ℕ) → none ≡ first_fault_def f k → f k ≡ first_fault_def f (suc k)
+  unfolding first_fault_def
+  next k e = passed (f k) _ (f k) e refl
 
-stays : (f : ℕ → Fault) (k d : ℕ) → first_fault_def f k ≡ no_fault_def → ((f k).refusal ≡ 0 → ⊥) → first_fault_def f (suc k + d) ≡ f k
-unfolding first_fault_def
-stays f k zero e h = rw (add-zero (suc k)) (next f k e)
-stays f k (suc d) e h =
-    let s = stays f k d e h in
-    rw (add-suc (suc k) d) (ap (λ (x : Fault). or_else x (f (suc k + d))) s ∙ else_found (f k) _ h)
+  pub none_more : (k : ℕ) → none ≡ first_fault_def f k → none ≡ f k → none ≡ first_fault_def f (k + 1)
+  none_more k e h = rw (add-one k) (h ∙ next k e)
 
-pub hit : (f : ℕ → Fault) (k n : ℕ) → k < n → first_fault_def f k ≡ no_fault_def → ((f k).refusal ≡ 0 → ⊥) → first_fault_def f n ≡ f k
-hit f k n l e h = subst (λ (m : ℕ). first_fault_def f m ≡ f k) (add-sub_of_le l) (stays f k _ e h)
+  stays : (k d : ℕ) (e : Refusal) (p : Option Place) → placed (number e) p ≡ first_fault_def f (suc k) → placed (number e) p ≡ first_fault_def f (suc k + d)
+  unfolding first_fault_def
+  stays k zero e p h = rw (add-zero (suc k)) h
+  stays k (suc d) e p h = rw (add-suc (suc k) d) (failed e p (first_fault_def f (suc k + d)) (f (suc k + d)) (stays k d e p h))
 
-pub no_row : (n column row : ℕ) → n ≡ 0 → fault_at_def n column row ≡ no_fault_def
+  pub found_at :
+      (k n : ℕ) (e : Refusal) (p : Option Place) → k < n → none ≡ first_fault_def f k → placed (number e) p ≡ f k → placed (number e) p ≡ first_fault_def f n
+  found_at k n e p l z h = subst (λ (m : ℕ). placed (number e) p ≡ first_fault_def f m) (add-sub_of_le l) (stays k _ e p (h ∙ next k z))
+
+pub ruleset search = (none_yet, none_more, found_at)
+
+-- a cell's test
+pub at_none : (n column row : ℕ) → n ≡ 0 → none ≡ fault_at_def n column row
+unfolding fault_at_def no_fault_def
+at_none n column row e = rw e
+
+pub at_cell : (e : Refusal) (n column row : ℕ) → number e ≡ n → record { refusal = number e; column = column; row = row } ≡ fault_at_def n column row
 unfolding fault_at_def
-no_row n column row e = rw (eq-eqb n 0 e)
+at_cell e n column row h = rw (← h, ne_eqb _ 0 (never_0 e))
 
-pub bad_row : (n column row : ℕ) → (n ≡ 0 → ⊥) → fault_at_def n column row ≡ record { refusal = n; column = column; row = row }
-unfolding fault_at_def
-bad_row n column row h = rw (ne_eqb n 0 h)
+pub ruleset cell = (at_none, at_cell)
+
+-- rows: m is the number that the test of row k gives
+module _ (bad : ℕ → ℕ) (column : ℕ) where
+  pub rows_none : none ≡ rows_fault bad column 0
+  unfolding rows_fault
+  rows_none = none_yet _
+
+  pub rows_more : (k m : ℕ) → none ≡ rows_fault bad column k → m ≡ bad k → none ≡ fault_at_def m column k → none ≡ rows_fault bad column (k + 1)
+  unfolding rows_fault
+  rows_more k m z e h = none_more (λ row. fault_at_def (bad row) column row) k z (rw (← e) h)
+
+  pub rows_found :
+      (k m n : ℕ) (e : Refusal) (p : Option Place) → k < n → none ≡ rows_fault bad column k → m ≡ bad k → placed (number e) p ≡ fault_at_def m column k →
+      placed (number e) p ≡ rows_fault bad column n
+  unfolding rows_fault
+  rows_found k m n e p l z d h = found_at (λ row. fault_at_def (bad row) column row) k n e p l z (rw (← d) h)
+
+pub ruleset rows = (rows_none, rows_more, rows_found)

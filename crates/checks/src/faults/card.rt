@@ -1,97 +1,65 @@
 // The cells that a card reads.
-ghost use Rattle.std.specs.Prelude.{◌≡◌};
+ghost use Rattle.std.specs.Prelude.{◌≡◌, ◌-◌, true};
+ghost use Rattle.domain.specs.Refusals.{number_of};
 ghost use Rattle.checks.specs.Align.{is_end_def};
-ghost use Rattle.checks.specs.Batch.{view, history_of, weights_of, cards_in_def};
-ghost use Rattle.checks.specs.Faults.{card_rows_def, card_column_def, card_fault_def};
+ghost use Rattle.checks.specs.Decks.{cards_now, history_at, rows_of, weights_at};
+ghost use Rattle.checks.specs.Faults.{PlacedWhere, fault_of, card_rows_def, card_column_def, card_fault_def};
+ghost use Rattle.checks.specs.Reads.{card_row_def, is_last};
 
-use crate::align::{Align, first_review, is_end, row_from, weight_at};
-use crate::fault::Fault;
-use crate::faults::found::no_fault;
-use crate::reads::{card_row, is_last};
-use crate::tables::{cell_of, cut_length};
-use crate::view::cell_at;
+use crate::deck::{Card, Cards};
+use crate::fault::{Fault, locate};
+use crate::reads::{check_card_row, is_last};
+use domain::refusal::Refusal;
 
-fn card_rows(
-    align: Align,
-    t_hist: &[f32],
-    r_hist: &[f32],
-    batch: u32,
-    labels: &[f32],
-    weights: &[f32],
-    column: u32,
-    first: u32,
-    n: u32,
-) -> Fault
-    ensures { result ≡ card_rows_def (is_end_def align) (history_of t_hist.now r_hist.now batch column first)
-        (view labels.now batch column) (weights_of align r_hist.now weights.now batch column)
-        column n }
-{
-    let end = is_end(align);
-    let mut i = 0;
-    while i < n {
-        let day = cell_at(t_hist, batch, column, i);
-        let rating = cell_at(r_hist, batch, column, i);
-        let k = cell_of(i, batch, column);
-        let weight = weight_at(align, r_hist, weights, k);
-        let label = cell_at(labels, batch, column, i);
-        let last = is_last(n, i);
-        let bad = card_row(end, last, row_from(i, first), day, rating, weight, label);
-        if bad != 0 {
-            return Fault {
-                refusal: bad,
-                column,
-                row: i,
-            };
-        }
-        i += 1;
+impl Card<'_> {
+    // A row of n.
+    fn check_row(&self, n: u32, row: u32) -> Result<(), Refusal>
+        ensures { let c = self.now in
+            number_of result ≡ card_row_def (is_end_def c.align) (is_last n row) (row - c.history.first)
+            (rows_of c.history.days row) (rows_of c.history.ratings row) (weights_at c row) (rows_of c.labels row) }
+    {
+        check_card_row(
+            self.align.is_end(),
+            is_last(n, row),
+            row.saturating_sub(self.history.first),
+            self.history.ratings.at(row),
+            &self.target(row),
+        )
     }
-    no_fault()
+
+    #[tactic(auto, using(crate::proofs::faults::First::rows))]
+    fn check_rows(&self, column: u32, n: u32) -> Result<(), Fault>
+        ensures fault { fault_of result ≡ card_rows_def (is_end_def self.now.align) (history_at self.now.history)
+            (rows_of self.now.labels) (weights_at self.now) column n }
+        ensures place { PlacedWhere true result }
+    {
+        for row in 0..n {
+            locate(self.check_row(n, row), column, row)?;
+        }
+        Ok(())
+    }
 }
 
-fn card_column(
-    align: Align,
-    t_hist: &[f32],
-    r_hist: &[f32],
-    seq_len: u32,
-    batch: u32,
-    seq_lens: &[u32],
-    labels: &[f32],
-    weights: &[f32],
-    column: u32,
-) -> Fault
-    ensures { result ≡ card_column_def (cards_in_def align t_hist.now r_hist.now seq_len batch seq_lens.now
-        labels.now weights.now) column }
-{
-    let n = cut_length(seq_lens, seq_len, column);
-    let first = first_review(align, r_hist, batch, column, n);
-    card_rows(
-        align, t_hist, r_hist, batch, labels, weights, column, first, n,
-    )
-}
-
-// Columns ascending.
-pub fn card_fault(
-    align: Align,
-    t_hist: &[f32],
-    r_hist: &[f32],
-    seq_len: u32,
-    batch: u32,
-    seq_lens: &[u32],
-    labels: &[f32],
-    weights: &[f32],
-) -> Fault
-    ensures { result ≡ card_fault_def (cards_in_def align t_hist.now r_hist.now seq_len batch seq_lens.now
-        labels.now weights.now) }
-{
-    let mut c = 0;
-    while c < batch {
-        let f = card_column(
-            align, t_hist, r_hist, seq_len, batch, seq_lens, labels, weights, c,
-        );
-        if f.refusal != 0 {
-            return f;
-        }
-        c += 1;
+impl Cards<'_> {
+    #[tactic(auto, unfolding(crate::specs::Faults::card_column_def))]
+    fn check_column(&self, column: u32) -> Result<(), Fault>
+        ensures fault { fault_of result ≡ card_column_def (cards_now self.now) column }
+        ensures place { PlacedWhere true result }
+    {
+        self.card(column)
+            .check_rows(column, self.table.length(column))
     }
-    no_fault()
+
+    // The first fault among the cells that are read, columns ascending.
+    // Stays: a prefix's loops have these lines too, and a trait with an impl for each would be longer.
+    #[tactic(auto, using(crate::proofs::faults::First::search), unfolding(crate::specs::Faults::card_fault_def))]
+    pub(crate) fn check_cells(&self) -> Result<(), Fault>
+        ensures fault { fault_of result ≡ card_fault_def (cards_now self.now) }
+        ensures place { PlacedWhere true result }
+    {
+        for column in 0..self.table.columns {
+            self.check_column(column)?;
+        }
+        Ok(())
+    }
 }

@@ -1,112 +1,75 @@
 // The cells that a prefix reads.
-ghost use Rattle.std.specs.Prelude.{◌≡◌};
+ghost use Rattle.std.specs.Prelude.{◌≡◌, ◌-◌, true};
+ghost use Rattle.domain.specs.Refusals.{number_of};
 ghost use Rattle.domain.specs.Weights.{◌!◌};
 ghost use Rattle.checks.specs.Align.{target_weight_def};
-ghost use Rattle.checks.specs.Batch.{history_of, prefixes_in_def};
-ghost use Rattle.checks.specs.Faults.{prefix_rows_def, target_fault, prefix_column_def, prefix_fault_def};
+ghost use Rattle.checks.specs.Decks.{history_at, prefixes_now, rows_of};
+ghost use Rattle.checks.specs.Faults.{PlacedWhere, fault_of, prefix_rows_def, target_fault, prefix_column_def, prefix_fault_def};
+ghost use Rattle.checks.specs.Reads.{prefix_row_def};
 
-use crate::align::{Align, first_review, row_from, target_weight};
-use crate::fault::Fault;
-use crate::faults::found::{fault_at, no_fault};
-use crate::reads::{prefix_row, target_row};
-use crate::tables::{cut_length, read};
-use crate::view::cell_at;
+use crate::deck::{History, Prefixes};
+use crate::fault::{Fault, locate};
+use crate::reads::{check_prefix_row, check_target};
+use domain::refusal::Refusal;
 
-fn prefix_rows(t_hist: &[f32], r_hist: &[f32], batch: u32, column: u32, first: u32, n: u32) -> Fault
-    ensures { result ≡ prefix_rows_def (history_of t_hist.now r_hist.now batch column first) column n }
-{
-    let mut i = 0;
-    while i < n {
-        let day = cell_at(t_hist, batch, column, i);
-        let rating = cell_at(r_hist, batch, column, i);
-        let bad = prefix_row(row_from(i, first), day, rating);
-        if bad != 0 {
-            return Fault {
-                refusal: bad,
-                column,
-                row: i,
-            };
+impl History<'_> {
+    fn check_row(&self, row: u32) -> Result<(), Refusal>
+        ensures { number_of result ≡ prefix_row_def (row - self.now.first) (rows_of self.now.days row) (rows_of self.now.ratings row) }
+    {
+        check_prefix_row(
+            row.saturating_sub(self.first),
+            self.days.at(row),
+            self.ratings.at(row),
+        )
+    }
+
+    #[tactic(auto, using(crate::proofs::faults::First::rows))]
+    fn check_rows(&self, column: u32, n: u32) -> Result<(), Fault>
+        ensures fault { fault_of result ≡ prefix_rows_def (history_at self.now) column n }
+        ensures place { PlacedWhere true result }
+    {
+        for row in 0..n {
+            locate(self.check_row(row), column, row)?;
         }
-        i += 1;
+        Ok(())
     }
-    no_fault()
 }
 
-fn prefix_target(
-    align: Align,
-    delta_ts: &[f32],
-    labels: &[f32],
-    weights: &[f32],
-    column: u32,
-    first: u32,
-    n: u32,
-) -> Fault
-    ensures { result ≡ target_fault delta_ts.now labels.now
-        (target_weight_def align first n (weights.now ! column)) column n }
-{
-    let k = column as usize;
-    let day = read(delta_ts, k);
-    let label = read(labels, k);
-    let weight = target_weight(align, first, n, read(weights, k));
-    let bad = target_row(weight, label, day);
-    fault_at(bad, column, n)
-}
-
-fn prefix_column(
-    align: Align,
-    t_hist: &[f32],
-    r_hist: &[f32],
-    seq_len: u32,
-    batch: u32,
-    seq_lens: &[u32],
-    delta_ts: &[f32],
-    labels: &[f32],
-    weights: &[f32],
-    column: u32,
-) -> Fault
-    ensures { result ≡ prefix_column_def (prefixes_in_def align t_hist.now r_hist.now seq_len batch seq_lens.now
-        delta_ts.now labels.now weights.now) column }
-{
-    let n = cut_length(seq_lens, seq_len, column);
-    if n == 0 {
-        return Fault {
-            refusal: 9,
-            column,
-            row: 0,
-        };
+impl Prefixes<'_> {
+    #[tactic(auto, unfolding(crate::specs::Faults::target_fault))]
+    fn check_target(&self, column: u32, first: u32, n: u32) -> Result<(), Fault>
+        ensures fault { fault_of result ≡ target_fault self.now.days.now self.now.labels.now
+            (target_weight_def self.now.table.align first n (self.now.weights.now ! column)) column n }
+        ensures place { PlacedWhere true result }
+    {
+        let target = self.target(column, first, n);
+        locate(check_target(&target), column, n)
     }
-    let first = first_review(align, r_hist, batch, column, n);
-    let f = prefix_rows(t_hist, r_hist, batch, column, first, n);
-    if f.refusal != 0 {
-        return f;
-    }
-    prefix_target(align, delta_ts, labels, weights, column, first, n)
-}
 
-// Columns ascending.
-pub fn prefix_fault(
-    align: Align,
-    t_hist: &[f32],
-    r_hist: &[f32],
-    seq_len: u32,
-    batch: u32,
-    seq_lens: &[u32],
-    delta_ts: &[f32],
-    labels: &[f32],
-    weights: &[f32],
-) -> Fault
-    ensures { result ≡ prefix_fault_def (prefixes_in_def align t_hist.now r_hist.now seq_len batch seq_lens.now
-        delta_ts.now labels.now weights.now) }
-{
-    let mut c = 0;
-    while c < batch {
-        let f = prefix_column(
-            align, t_hist, r_hist, seq_len, batch, seq_lens, delta_ts, labels, weights, c,
-        );
-        if f.refusal != 0 {
-            return f;
+    #[tactic(auto, using(crate::proofs::faults::First::chain), unfolding(crate::specs::Faults::prefix_column_def))]
+    fn check_column(&self, column: u32) -> Result<(), Fault>
+        ensures fault { fault_of result ≡ prefix_column_def (prefixes_now self.now) column }
+        ensures place { PlacedWhere true result }
+    {
+        let n = self.table.length(column);
+        if n == 0 {
+            return Err(Fault::at(Refusal::EmptyPrefix, column, 0));
         }
-        c += 1;
+        let history = self.table.history(column);
+        history.check_rows(column, n)?;
+        self.check_target(column, history.first, n)
     }
-    no_fault()
+
+    // The first fault among the cells that are read, columns ascending.
+    // Stays: a card's loops have these lines too, and a trait with an impl for each would be longer.
+    #[tactic(auto, using(crate::proofs::faults::First::search), unfolding(crate::specs::Faults::prefix_fault_def))]
+    pub(crate) fn check_cells(&self) -> Result<(), Fault>
+        ensures fault { fault_of result ≡ prefix_fault_def (prefixes_now self.now) }
+        ensures place { PlacedWhere true result }
+    {
+        for column in 0..self.table.columns {
+            self.check_column(column)?;
+        }
+        Ok(())
+    }
 }

@@ -1,30 +1,27 @@
 -- exp's answers by the fields of x's pattern. Assumes nothing.
-use Rattle.std.proofs.Common.{◌≡◌, ℕ, ◌+◌, ◌-◌, ◌*◌, ◌^◌, ◌<◌, ◌≤◌, Bool, true, false, cond, not, T, ℤ, pos, sym, refl, ap, ◌∙◌, subst, le_trans, lt_trans, le_of_eq, lt_of_lt_of_le, mul-le-mul, mul-le-mul_left, mul-lt-mul_of_pos_right, ne_of_lt, arith, lit<, pow_pos, pow_mono, pow-add}
-use lib.Ieee.{Float, nan, inf, fin, Format, binary32, binary64, prec, low, hid, ones, up, down, ne, is_nan, to_bits, fits}
-use lib.Ieee.Compare.{differs_from_itself}
+use Rattle.std.proofs.Common.{◌≡◌, ℕ, ◌+◌, ◌-◌, ◌*◌, ◌^◌, ◌<◌, ◌≤◌, Bool, true, false, cond, ◌&&◌, T, true≢false, ℤ, pos, sym, refl, ap, ◌∙◌, subst, ap₂, le_trans, lt_trans, le_of_eq, lt_of_lt_of_le, mul-le-mul, mul-le-mul_left, mul-lt-mul_of_pos_right, ne_of_lt, arith, lit<, leb, leb→le, le-leb, leb-false, pow_pos, pow_mono, pow-add}
+use lib.Ieee.{Float, nan, inf, fin, Format, binary32, binary64, prec, low, hid, ones, up, down, is_nan, to_bits, fits}
+use mathlib.Core.Bool.{false≢true}
 use lib.Ieee.Exact.{HasValue}
-use lib.Ieee.Fits.{down_pos}
+use lib.Ieee.Fits.{and_l, and_r, down_pos}
 use lib.Ieee.Scale.{finite}
 use Rattle.soft.specs.Units.{split_def, units_def}
-use Rattle.soft.proofs.units.Value.{measured, digits_lt, places_lt, leading, holds}
+use Rattle.soft.proofs.units.Value.{measured, digits_lt, places_lt, leading}
 use Rattle.table.specs.Whole.{signed}
 use Rattle.kernels.specs.Power.{power}
 use Rattle.kernels.specs.Kernels.{turns, exp_def}
+use Rattle.kernels.specs.inner.Fields.{sign, field, rest, least, most}
 use Rattle.kernels.proofs.whole.Words.{word, signed_word}
-use Rattle.kernels.proofs.exp.Turns.{turns_same, least, most, nothing, much}
+use Rattle.kernels.proofs.exp.Turns.{turns_same, nothing, much}
 use Rattle.kernels.proofs.power.Answers.{at_zero, past}
-use Rattle.kernels.proofs.power.Fields.{sign, field, rest, digits_is}
+use Rattle.kernels.proofs.power.Fields.{digits_is}
 
 -- ---- no number
-pub refused : (f : Format) (x : Float) → ne x x ≡ true → nan ≡ exp_def f x
-unfolding exp_def
-refused f x e = sym (ap (exp_def f) (differs_from_itself x (holds e)))
-
-pub no_nan : (x : Float) → ne x x ≡ false → T (not (is_nan x))
-unfolding ne is_nan
-no_nan nan e = subst T e tt
-no_nan (inf s) e = tt
-no_nan (fin s m e) h = tt
+pub refused : (f : Format) (x : Float) → is_nan x ≡ true → nan ≡ exp_def f x
+unfolding exp_def is_nan
+refused f nan e = refl
+refused f (inf s) e = absurd (false≢true e)
+refused f (fin s m k) e = absurd (false≢true e)
 
 at_units : (f : Format) (x : Float) (s : Bool) (n : ℕ) → HasValue x s n (2 ^ low f) → exp_def f x ≡ power f (signed s (turns f n (2 ^ low f)))
 unfolding exp_def
@@ -40,9 +37,9 @@ bits_inf binary32 false = refl
 bits_inf binary64 true = refl
 bits_inf binary64 false = refl
 
-finite_is : (f : Format) (x : Float) → ne x x ≡ false → (field f x ≡ ones f → ⊥) → T (finite x)
-unfolding ne
-finite_is f nan n h = absurd (subst T n tt)
+finite_is : (f : Format) (x : Float) → is_nan x ≡ false → (field f x ≡ ones f → ⊥) → T (finite x)
+unfolding is_nan
+finite_is f nan n h = absurd (true≢false n)
 finite_is f (inf s) n h = absurd (h (bits_inf f s))
 finite_is f (fin s m e) n h = tt
 
@@ -53,7 +50,7 @@ infinite f (inf s) k h = refl
 infinite f (fin s m e) k h = absurd (omega (arith, h, places_lt f (fin s m e) k tt))
 
 -- ---- a number, where x is one
-module _ (f : Format) (x : Float) (held : T (fits f x)) (n : ne x x ≡ false) where
+module _ (f : Format) (x : Float) (held : T (fits f x)) (n : is_nan x ≡ false) where
   abbrev units : ℕ
   units = (units_def f x).digits * 2 ^ (units_def f x).places
 
@@ -89,3 +86,35 @@ module _ (f : Format) (x : Float) (held : T (fits f x)) (n : ne x x ≡ false) w
       late : (f : Format) (F : ℕ) → most f < F → (0 < F - 1) × (most f ≤ F - 1)
       late binary32 F h = (omega arith, omega arith)
       late binary64 F h = (omega arith, omega arith)
+
+-- ---- as the code tests the fields, E and D below the sign S
+inside : (f : Format) (F : ℕ) → least f ≤ F → F ≤ most f → (0 < F) × (F < ones f)
+inside binary32 F l m = (omega arith, omega arith)
+inside binary64 F l m = (omega arith, omega arith)
+
+passing : (a b : ℕ) (c d : ℕ) → (leb a b && leb c d) ≡ true → (a ≤ b) × (c ≤ d)
+passing a b c d h = (leb→le a b (and_l (leb a b) (leb c d) (subst T (sym h) tt)), leb→le c d (and_r (leb a b) (leb c d) (subst T (sym h) tt)))
+
+beyond : (a b d : ℕ) → (leb a b && leb b d) ≡ false → a ≤ b → d < b
+beyond a b d h l = go (leb a b) (leb b d) (le-leb a b l) h (λ e. leb-false b d e)
+  where
+    go : (s t : Bool) → s ≡ true → (s && t) ≡ false → (t ≡ false → d < b) → d < b
+    go s true e h k = absurd (true≢false (sym (ap (λ (u : Bool). u && true) e) ∙ h))
+    go s false e h k = k refl
+
+module _ (f : Format) (x : Float) (held : T (fits f x)) (n : is_nan x ≡ false) (E D : ℕ) (S : Bool) (eE : E ≡ field f x) (eD : D ≡ rest f x) (eS : S ≡ sign f x) where
+  pub among : (leb (least f) E && leb E (most f)) ≡ true → (a : ℕ) (z : ℤ) → a ≡ turns f ((hid f + D) * 2 ^ (E - 1)) (2 ^ low f) → a < 2 ^ 63 → z ≡ signed S a → power f (word z) ≡ exp_def f x
+  among h a z ea la ez =
+      let p = passing (least f) E E (most f) h in
+      let i = inside f (field f x) (subst (λ (m : ℕ). least f ≤ m) eE p.0) (subst (λ (m : ℕ). m ≤ most f) eE p.1) in
+      near f x held n i.0 i.1 a z (ea ∙ ap₂ (λ (d e : ℕ). turns f ((hid f + d) * 2 ^ (e - 1)) (2 ^ low f)) eD eE) la (ez ∙ ap (λ (s : Bool). signed s a) eS)
+
+  pub under : (L : ℕ) → L ≡ least f → E < L → fin false 1 (pos 0) ≡ exp_def f x
+  under L e h = tiny f x held n (subst (λ (m : ℕ). m < least f) eE (subst (λ (m : ℕ). E < m) e h))
+
+  pub at_end : (O : ℕ) → O ≡ ones f → E ≡ O → nan ≡ exp_def f x
+  at_end O e h = infinite f x held (sym eE ∙ h ∙ e)
+
+  pub past_end : (L O : ℕ) → L ≡ least f → O ≡ ones f → (leb (least f) E && leb E (most f)) ≡ false → L ≤ E → (E ≡ O → ⊥) → cond S (fin false 0 (pos 0)) (inf false) ≡ exp_def f x
+  past_end L O eL eO t h u =
+      far f x held n (subst (λ (m : ℕ). most f < m) eE (beyond (least f) E (most f) t (subst (λ (m : ℕ). m ≤ E) eL h))) (λ q. u (eE ∙ q ∙ sym eO)) S (sym eS)

@@ -6,6 +6,7 @@ use lib.Ieee.Nearest.{div_same}
 use Rattle.table.specs.Exact.{N}
 use Rattle.kernels.specs.Power.{hi}
 use Rattle.kernels.specs.Kernels.{turns}
+use Rattle.kernels.specs.inner.Fields.{least, most}
 use Rattle.kernels.proofs.Definitions.Hi.{hi_ge}
 
 abbrev K31 : ℕ
@@ -19,15 +20,6 @@ pub turns_same : (f : Format) (s b t c : ℕ) → 0 < b → 0 < c → s * c ≡ 
 unfolding turns
 turns_same binary32 s b t c p q e = div_same (s * (K31 * 2 ^ 13)) b (t * (K31 * 2 ^ 13)) c p q (mul_right_comm s (K31 * 2 ^ 13) c ∙ ap (λ (x : ℕ). x * (K31 * 2 ^ 13)) e ∙ mul_right_comm t b (K31 * 2 ^ 13))
 turns_same binary64 s b t c p q e = ap (λ (x : ℕ). hi x K) (div_same (s * 2 ^ 53) b (t * 2 ^ 53) c p q (mul_right_comm s (2 ^ 53) c ∙ ap (λ (x : ℕ). x * 2 ^ 53) e ∙ mul_right_comm t b (2 ^ 53)))
-
--- ---- the exponents' fields at which there is a turn to count, and the last before the end
-abbrev pub least : Format → ℕ
-least binary32 = 74
-least binary64 = 970
-
-abbrev pub most : Format → ℕ
-most binary32 = 133
-most binary64 = 1032
 
 pub nothing : (f : Format) (n : ℕ) → n < 2 ^ (prec f + (least f - 2)) → turns f n (2 ^ low f) ≡ 0
 unfolding turns hi

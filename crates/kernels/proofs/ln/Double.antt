@@ -1,9 +1,9 @@
 -- ln_f64's doubles: the two parts of j N64 - l, and their sum, rounded once. Assumes nothing.
-use Rattle.std.proofs.Common.{◌≡◌, ℕ, ◌+◌, ◌*◌, ◌/◌, ◌^◌, ◌<◌, ◌≤◌, false, T, ℤ, pos, negsuc, ◌+ℤ◌, ◌-ℤ◌, ◌*ℤ◌, neg_ℤ, nat_abs, sym, refl, ap, ◌∙◌, subst, ap₂, le_trans, lt_trans, lt_of_lt_of_le, lt_of_le_of_lt, le_of_lt, arith, lit<, lit≤, le→leb, lt→ltb, to_z-of_z, w64, SFits}
+use Rattle.std.proofs.Common.{◌≡◌, ℕ, ◌+◌, ◌*◌, ◌/◌, ◌^◌, ◌<◌, ◌≤◌, false, ℤ, pos, ◌+ℤ◌, ◌-ℤ◌, ◌*ℤ◌, neg_ℤ, nat_abs, sym, refl, ap, ◌∙◌, subst, ap₂, lt_of_lt_of_le, lt_of_le_of_lt, arith, lit<, lit≤, to_z-of_z, w64, SFits}
 use lib.Count.{count_trailing_zeros}
 use lib.IntN.{+ℤ_assoc}
 use lib.Signed.{mag, shr_z, nat_abs-le}
-use lib.Ieee.{Float, binary64, of_bits, of_fields, of_int, in_float, odd, add, mul}
+use lib.Ieee.{Float, binary64, of_bits, of_fields, of_int, odd, add, mul}
 use lib.Ieee.Exact.{HasValue}
 use Rattle.soft.proofs.Rounding.Exponent.{read}
 use Rattle.table.specs.Exact.{N}
@@ -12,15 +12,6 @@ use Rattle.kernels.specs.Kernels.{nearest_of}
 use Rattle.kernels.proofs.Definitions.Sizes.{nat_abs_mul, nat_abs_add, rest_lt}
 use Rattle.kernels.proofs.ln.Whole.{times_one, sum_times, times_sum, times_times, parts}
 use Rattle.kernels.proofs.ln.Value.{Holds, finer, cast_holds, mul_holds, add_is, add_holds}
-
--- ---- whole numbers below 2 ^ 52 lose nothing
-castable : (z : ℤ) → mag z < 2 ^ 52 → T (in_float binary64 z)
-unfolding in_float
-castable (pos n) h = le→leb n (2 ^ 53) (le_trans (le_of_lt h) (lit≤ tt))
-castable (negsuc n) h = lt→ltb n (2 ^ 53) (lt_trans h (lit< tt))
-
-pub cast_fits : (z : ℤ) → SFits w64 z → mag z < 2 ^ 52 → T (in_float binary64 (read z))
-cast_fits z f h = subst (λ (y : ℤ). T (in_float binary64 y)) (sym (to_z-of_z f)) (castable z h)
 
 pub asked : (z : ℤ) (n m : ℕ) → SFits w64 z → mag z < n → n ≤ m → mag (read z) < m
 asked z n m f h k = subst (λ (y : ℤ). mag y < m) (sym (to_z-of_z f)) (lt_of_lt_of_le h k)

@@ -1,16 +1,15 @@
 -- ln by its cases: no logarithm, x = 1, and all the others. Assumes nothing.
-use Rattle.std.proofs.Common.{◌≡◌, ℕ, zero, suc, ◌+◌, ◌/◌, ◌^◌, Bool, true, false, cond, ◌&&◌, T, eqb, ℤ, pos, negsuc, ◌-ℤ◌, ◌*ℤ◌, sym, refl, ap, ◌∙◌, ap₂, true≢false, lt_trans, zero-lt-suc, lit<, eqb→eq, pow_pos, to_z-of_z, w64, lt-ltb}
+use Rattle.std.proofs.Common.{◌≡◌, ℕ, zero, suc, ◌+◌, ◌/◌, ◌^◌, Bool, true, false, cond, ◌&&◌, T, eqb, ℤ, pos, negsuc, ◌-ℤ◌, ◌*ℤ◌, sym, refl, ap, ◌∙◌, ap₂, true≢false, zero-lt-suc, eqb→eq, pow_pos, lt-ltb}
 use lib.Ieee.{Float, nan, inf, fin, Format, binary32, binary64, span, climb, size, fits, to_bits, of_bits, of_fields, odd}
 use lib.Ieee.Bits.{of_bits-to_bits}
 use lib.Ieee.Positive.{positive}
 use lib.Count.{count_trailing_zeros}
-use Rattle.soft.proofs.Rounding.Exponent.{read}
 use Rattle.soft.proofs.Rounding.Place.{round_none}
 use Rattle.table.specs.Exact.{N}
 use Rattle.kernels.specs.Logarithm.{is_one_def, binade, first64, steps, below64, logarithm}
 use Rattle.kernels.specs.Kernels.{nearest_of, ln_def}
 use Rattle.kernels.specs.inner.Logs.{log_of, steps_of, below_of_def, Logged}
-use Rattle.kernels.specs.declared.log_double.Log.{Log}
+use Rattle.kernels.specs.declared.log.Log.{Log}
 use Rattle.kernels.proofs.log_double.Pattern.{by_parts}
 
 -- ---- what is not positive has none
@@ -58,9 +57,9 @@ other x p n = by_parts (λ (x : Float). (to_bits binary64 x ≡ one_bits_def →
     go m e n = ap (λ (b : Bool). nearest_of binary64 (cond b (pos 0) (steps (binade (suc m) e) (first64 (suc m)) *ℤ pos ((N + 128) / 2 ^ 8) -ℤ pos (below64 (suc m)))) 64) (sym (not-one (suc m) e n))
 
 pub ln_double : (x : Float) (r : Log) → T (positive x) → Logged x r → (to_bits binary64 x ≡ one_bits_def → ⊥)
-    → nearest_of binary64 (read r.j *ℤ pos ((N + 128) / 2 ^ 8) -ℤ pos r.l) 64 ≡ ln_def binary64 x
+    → nearest_of binary64 (r.j *ℤ pos ((N + 128) / 2 ^ 8) -ℤ pos r.l) 64 ≡ ln_def binary64 x
 ln_double x r p t n =
-    ap₂ (λ (j : ℤ) (l : ℕ). nearest_of binary64 (j *ℤ pos ((N + 128) / 2 ^ 8) -ℤ pos l) 64) (to_z-of_z {w = w64} (record { sfits = lt_trans t.few (lit< {m = 2 ^ 19} {n = 2 ^ 63} tt) }) ∙ t.steps_is) t.below_is ∙ other x p n
+    ap₂ (λ (j : ℤ) (l : ℕ). nearest_of binary64 (j *ℤ pos ((N + 128) / 2 ^ 8) -ℤ pos l) 64) t.steps_is t.below_is ∙ other x p n
 
 pub ln_single : (x : Float) → T (positive x) → nearest_of binary32 (log_of binary32 x) 56 ≡ ln_def binary32 x
 unfolding ln_def log_of

@@ -1,7 +1,7 @@
 -- Whole numbers of either sign: products with a natural number, their sign, and quotients. Assumes nothing.
-use Rattle.std.proofs.Common.{◌≡◌, ℕ, zero, suc, ◌+◌, ◌*◌, ◌<◌, true, ℤ, pos, negsuc, ◌+ℤ◌, ◌*ℤ◌, neg_ℤ, sym, refl, ap, ◌∙◌, ap₂, not-suc-le-zero, add-zero, add-suc, zero-lt-suc, div-lt_iff_lt-mul, mul-pos, mul-zero, mul-suc}
+use Rattle.std.proofs.Common.{◌≡◌, ℕ, zero, suc, ◌+◌, ◌*◌, ◌<◌, true, ℤ, pos, negsuc, ◌+ℤ◌, ◌*ℤ◌, neg_ℤ, sym, refl, ap, ◌∙◌, ap₂, not-suc-le-zero, add-zero, add-suc, zero-lt-suc, mul-pos, mul-zero, mul-suc}
 use lib.IntN.{one, +ℤ_idr, +ℤ_assoc, +ℤ_comm, -ℤ-+ℤ_cancel, *ℤ_comm, *ℤ-zero, *ℤ-one, suc_ℤ-*ℤ}
-use lib.Signed.{mag, shr_z}
+use lib.Signed.{shr_z}
 use Rattle.table.specs.Whole.{below0, rest_z}
 use Rattle.kernels.proofs.whole.Divide.{whole}
 
@@ -41,11 +41,7 @@ sign_times (negsuc a) n h = negative (suc a * n) (mul-pos (zero-lt-suc a) h)
     negative zero h = absurd (not-suc-le-zero h)
     negative (suc k) h = refl
 
--- ---- the quotient, rounded down
-pub mag_quotient : (z : ℤ) (m q : ℕ) → 0 < m → mag z < q * m → mag (shr_z z m) < q
-mag_quotient (pos a) m q h l = (div-lt_iff_lt-mul {k = m} {x = a} {y = q} h).1 l
-mag_quotient (negsuc a) m q h l = (div-lt_iff_lt-mul {k = m} {x = a} {y = q} h).1 l
-
+-- ---- the quotient, rounded down, and the rest
 pub parts : (z : ℤ) (m : ℕ) → 0 < m → z ≡ shr_z z m *ℤ pos m +ℤ pos (rest_z z m)
 parts z m h =
     sym (-ℤ-+ℤ_cancel z (shr_z z m *ℤ pos m)) ∙ ap (λ (y : ℤ). y +ℤ shr_z z m *ℤ pos m) (whole z m h) ∙ +ℤ_comm (pos (rest_z z m)) (shr_z z m *ℤ pos m)

@@ -11,13 +11,13 @@ use Rattle.table.specs.Entry.{index_at_def}
 use Rattle.kernels.specs.Logarithm.{binade, moved, interval, steps, gap64, low64, below64}
 use Rattle.kernels.specs.inner.Logs.{steps_of, below_of_def, Logged}
 use Rattle.kernels.specs.inner.Single.{digits_at, place_of}
-use Rattle.kernels.specs.declared.log_double.Log.{Log}
+use Rattle.kernels.specs.declared.log.Log.{Log}
 use Rattle.kernels.proofs.log_double.Pattern.{by_parts, placed, short, digits_in, places_few, place_near, field_lt, normal_place, normal_digits, moved_range}
 use Rattle.kernels.proofs.log_double.Words.{mag-le, given, Line, line}
 
--- r is the logarithm of M / 2 ^ 63 * 2 ^ k
-abbrev pub At : ℕ → ℤ → Log → Type 0
-At M k r = (r.j ≡ steps k (index_at_def (interval M))) × (r.l ≡ low64 (gap64 (index_at_def (interval M)) M)) × (mag r.j < 2 ^ 19) × (r.l < 2 ^ 57)
+-- j and l are the logarithm of M / 2 ^ 63 * 2 ^ k
+abbrev pub At : ℕ → ℤ → (j : ℤ) → ℕ → Type 0
+At M k j l = (j ≡ steps k (index_at_def (interval M))) × (l ≡ low64 (gap64 (index_at_def (interval M)) M)) × (mag j < 2 ^ 19) × (l < 2 ^ 57)
 
 room : (n i : ℕ) → n ≤ 1100 → i ≤ 256 → (n * 256 + i < 2 ^ 63) × (n * 256 + i < 2 ^ 19)
 room n i a b = (omega arith, omega arith)
@@ -26,14 +26,14 @@ module _ (k : ℤ) (i : ℕ) (f : SFits w64 k) (a : mag k < 1100) (b : i ≤ 256
   pub steps_line : Line false k 256 i
   steps_line = line false k 256 i f (room (nat_abs k) i (nat_abs-le k a) b).0
 
-  pub log_given : (M g l : ℕ) → i ≡ index_at_def (interval M) → g ≡ gap64 i M → l ≡ low64 g → l < 2 ^ 57 → At M k (record { j = read (read (read k *ℤ pos 256) +ℤ to_z w64 i); l = l })
+  pub log_given : (M g l : ℕ) → i ≡ index_at_def (interval M) → g ≡ gap64 i M → l ≡ low64 g → l < 2 ^ 57 → At M k (read (read (read k *ℤ pos 256) +ℤ to_z w64 i)) l
   log_given M g l p q s t =
       let j = given (λ (z : ℤ). mag z < 2 ^ 19) (read (read (read k *ℤ pos 256) +ℤ to_z w64 i)) (steps k i) steps_line.sum.is
       (lt_of_le_of_lt (mag-le (steps k i)) (lt_of_le_of_lt steps_line.size (room (nat_abs k) i (nat_abs-le k a) b).1)) in
       (j.0 ∙ ap (steps k) p, s ∙ ap low64 (q ∙ ap (λ (x : ℕ). gap64 x M) p), j.1, t)
 
 -- ---- x's digits and their place
-logged_at : (M : ℕ) (k : ℤ) (r : Log) → At M k r → (m : ℕ) (e : ℤ) → k ≡ binade (suc m) e → M ≡ moved 64 (suc m) → Logged (fin false (suc m) e) r
+logged_at : (M : ℕ) (k : ℤ) (r : Log) → At M k r.j r.l → (m : ℕ) (e : ℤ) → k ≡ binade (suc m) e → M ≡ moved 64 (suc m) → Logged (fin false (suc m) e) r
 unfolding steps_of below_of_def below64
 logged_at M k r t m e p q = record {
   steps_is = t.0 ∙ ap₂ (λ (y : ℤ) (x : ℕ). steps y (index_at_def (interval x))) p q;
@@ -44,7 +44,7 @@ logged_at M k r t m e p q = record {
 
 pub record Known (x : Float) (M : ℕ) (k : ℤ) : Type 0 where
   pub asks : (2 ^ 63 ≤ M) × (mag k < 1100)
-  pub logged : (r : Log) → At M k r → Logged x r
+  pub logged : (r : Log) → At M k r.j r.l → Logged x r
 
 module _ (x : Float) (h : T (fits binary64 x)) (p : T (positive x)) where
   known : (M : ℕ) (k : ℤ) → k ≡ place_of x → M ≡ digits_at 64 x → Known x M k

@@ -1,5 +1,5 @@
 -- Words of either sign, within the range of a word by their sizes: z + n and z - n, and k c in the place of z. Assumes nothing.
-use Rattle.std.proofs.Common.{◌≡◌, ℕ, ◌+◌, ◌*◌, ◌^◌, ◌<◌, ◌≤◌, Bool, true, false, ℤ, pos, negsuc, ◌+ℤ◌, ◌-ℤ◌, ◌*ℤ◌, neg_ℤ, nat_abs, sym, ap, ◌∙◌, subst, ap₂, le_trans, le_of_eq, le_refl, lt_of_le_of_lt, arith, to_z-of_z, w64, SFits, to_z}
+use Rattle.std.proofs.Common.{◌≡◌, ℕ, ◌+◌, ◌*◌, ◌^◌, ◌<◌, ◌≤◌, Bool, true, false, ℤ, pos, negsuc, ◌+ℤ◌, ◌-ℤ◌, ◌*ℤ◌, neg_ℤ, nat_abs, sym, ap, ◌∙◌, subst, ap₂, le_trans, le_of_eq, le_refl, lt_trans, lt_of_le_of_lt, arith, lit<, to_z-of_z, w64, SFits, to_z}
 use lib.Signed.{mag}
 use mir.Facts.{to_z_pos}
 use Rattle.soft.proofs.Rounding.Exponent.{read}
@@ -11,6 +11,9 @@ mag-le (negsuc n) = omega arith
 
 pub fits_size : (z : ℤ) → nat_abs z < 2 ^ 63 → SFits w64 z
 fits_size z h = record { sfits = lt_of_le_of_lt (mag-le z) h }
+
+pub fits_few : (z : ℤ) → mag z < 2 ^ 19 → SFits w64 z
+fits_few z h = record { sfits = lt_trans h (lit< {m = 2 ^ 19} {n = 2 ^ 63} tt) }
 
 -- what holds of z holds of a word that is z
 pub given : (P : ℤ → Type 0) (r z : ℤ) → r ≡ z → P z → (r ≡ z) × P r

@@ -1,5 +1,5 @@
 -- A positive single by its digits m and the place k of the leading one, as the code has them: of its own pattern, of a double's, and next to 1. Assumes nothing.
-use Rattle.std.proofs.Common.{◌≡◌, ℕ, suc, ◌+◌, ◌-◌, ◌*◌, ◌/◌, ◌%◌, ◌^◌, ◌<◌, ◌≤◌, Bool, true, false, cond, ◌&&◌, T, eqb, ltb, leb, ℤ, pos, negsuc, ◌-ℤ◌, nat_abs, sym, refl, ap, ◌∙◌, subst, ap₂, lt_of_lt_of_le, lt_of_le_of_lt, mul_assoc, mul-one, mul-div_cancel, arith, lit<, lit≤, eqb→eq, ltb→lt, leb→le, pow_pos, pow-add, to_z-of_z, w64, SFits, to_z, lt-ltb}
+use Rattle.std.proofs.Common.{◌≡◌, ℕ, suc, ◌+◌, ◌-◌, ◌*◌, ◌/◌, ◌%◌, ◌^◌, ◌<◌, ◌≤◌, Bool, true, false, cond, ◌&&◌, T, eqb, ltb, leb, ℤ, pos, negsuc, ◌-ℤ◌, nat_abs, sym, refl, ap, ◌∙◌, subst, ap₂, inl, inr, lt_of_lt_of_le, mul_assoc, mul-one, mul-div_cancel, arith, lit<, lit≤, eqb→eq, ltb→lt, leb→le, pow_pos, pow-add, w64, SFits, to_z, lt-ltb}
 use native.Mathlib.Nat.{div-eq_of_lt}
 use lib.Dec.{not_T}
 use lib.Ieee.{Float, binary32, binary64, size, minus, fits, to_bits}
@@ -10,7 +10,7 @@ use Rattle.soft.proofs.Rounding.Exponent.{read, exponent_fits, exponent_is}
 use Rattle.soft.specs.Units.{units_def}
 use Rattle.kernels.specs.Logarithm.{moved, next_to_one}
 use Rattle.kernels.specs.inner.Single.{digits_of_def, place_of}
-use Rattle.kernels.proofs.log_double.Words.{fits_size}
+use Rattle.kernels.proofs.Definitions.Natural.{lt-or-ge}
 use Rattle.kernels.proofs.log_double.Pattern.{count, placed, short, place_low, place_near, digits_in, field_lt, normal_place, normal_digits}
 
 -- ---- next to 1
@@ -47,14 +47,10 @@ narrow n h =
     ∙ mul-div_cancel (moved 24 n) (pow_pos 29)
 
 module _ (x : Float) (h : T (fits binary32 x)) (p : T (positive x)) where
-  known : (m : ℕ) (k : ℤ) → m ≡ digits_of_def x → k ≡ place_of x → Known x m k
+  pub known : (m : ℕ) (k : ℤ) → m ≡ digits_of_def x → k ≡ place_of x → Known x m k
   known m k a b =
       let d = digits_in binary32 x h p 24 (lit≤ tt) in
       record { digits = a; place = b; asks = (subst (λ (n : ℕ). 2 ^ 23 ≤ n) (sym a) d.0, subst (λ (n : ℕ). n < 2 ^ 24) (sym a) d.1, subst (λ (z : ℤ). nat_abs z ≤ 149) (sym b) (place_near binary32 x h p)) }
-
-  -- as `small` gives them
-  pub small_known : (m : ℕ) (k : ℤ) → m ≡ digits_of_def x → k ≡ place_of x → Known x m (read k)
-  small_known m k a b = known m (read k) a (to_z-of_z (subst (SFits w64) (sym b) (fits_size (place_of x) (lt_of_le_of_lt (place_near binary32 x h p) (lit< tt)))) ∙ b)
 
   abbrev b : ℕ
   b = to_bits binary32 x
@@ -84,6 +80,9 @@ module _ (x : Float) (h : T (fits binary32 x)) (p : T (positive x)) where
 
     pub far_off : (b / 2 ^ 14 ≡ 0xfe00 → ⊥) → next_to_one (place_of x) (digits_of_def x) ≡ false
     far_off u = near_is ∙ far_place (b / 2 ^ 23) 127 (2 ^ 23 + b % 2 ^ 23) (λ e l. u (together b e l))
+
+  pub apart : (b / 2 ^ 14 ≡ 0xfe00 → ⊥) → next_to_one (place_of x) (digits_of_def x) ≡ false
+  apart u = elim (lt-or-ge b (2 ^ 23)) [ inl l ↦ tiny l | inr g ↦ far_off g u ]
 
   pub near : b / 2 ^ 14 ≡ 0xfe00 → (next_to_one (place_of x) (digits_of_def x) ≡ true) × (b % 2 ^ 14 ≡ digits_of_def x - 2 ^ 23)
   near e =

@@ -1,21 +1,20 @@
 -- y Λ of a double, from y's digits: cut by one shift where Λ has one word. Assumes nothing.
-use Rattle.std.proofs.Common.{◌≡◌, ℕ, ◌+◌, ◌-◌, ◌*◌, ◌/◌, ◌^◌, ◌<◌, ◌≤◌, Bool, T, ℤ, pos, negsuc, nat_abs, sym, refl, ap, ◌∙◌, ap₂, zero-le, lt_of_lt_of_le, lt_of_le_of_lt, le_of_lt, mul-le-mul, add_comm, mul-pos, arith, lit<, pow_pos, pow_mono, pow-add, shr-shr, shr_lt, to_z-of_z, w64, SFits, le-ltb}
+use Rattle.std.proofs.Common.{◌≡◌, ℕ, ◌+◌, ◌-◌, ◌*◌, ◌/◌, ◌^◌, ◌<◌, ◌≤◌, Bool, true, false, not, T, ℤ, pos, negsuc, nat_abs, sym, refl, ap, ◌∙◌, ap₂, zero-le, lt_of_lt_of_le, lt_of_le_of_lt, le_of_lt, mul-le-mul, add_comm, mul-pos, arith, lit<, pow_pos, pow_mono, pow-add, shr-shr, shr_lt, to_z-of_z, w64, SFits, le-ltb}
 use native.Mathlib.Nat.{div-eq_of_lt}
+use mathlib.Core.Bool.{beq}
 use lib.Signed.{lt_z}
 use lib.Ieee.{Float, nan, inf, fin, binary64, up, down, fits, unlike}
 use lib.Ieee.Fits.{down_pos}
 use lib.Ieee.Nearest.{div_same}
 use Rattle.table.specs.Whole.{signed, below0}
 use Rattle.soft.specs.Units.{units_def}
-use Rattle.soft.specs.Value.{value_of}
-use Rattle.soft.specs.declared.wide.Wide.{Wide}
-use Rattle.soft.proofs.wide.Laws.{high_is}
 use Rattle.soft.proofs.units.Value.{measured, digits_lt}
 use Rattle.kernels.specs.Power.{power}
 use Rattle.kernels.specs.Kernels.{raised, powered, pow_at_def}
 use Rattle.kernels.proofs.Definitions.Cases.{powered_finite}
 use Rattle.kernels.proofs.power.Answers.{one, at_zero}
-use Rattle.kernels.proofs.power.Fields.{sign, field, rest, sign_is, places_is, digits_is, field_most}
+use Rattle.kernels.specs.inner.Fields.{sign, field, rest}
+use Rattle.kernels.proofs.power.Fields.{sign_is, places_is, digits_is, field_most}
 use Rattle.kernels.proofs.whole.Words.{word, signed_word}
 
 -- |y| L / 64, for L = |Λ|
@@ -69,19 +68,26 @@ by_shift y L h p b =
     ∙ shift u.digits u.places L (1028 - F) (omega (arith, places_is binary64 y, field_most binary64 y h p))
 
 -- ---- as the code computes it
+-- the sign of a product, as `!=` has it
+pub unlike_is : (a b : Bool) → not (beq a b) ≡ unlike a b
+unlike_is true true = refl
+unlike_is true false = refl
+unlike_is false true = refl
+unlike_is false false = refl
+
 below_test : (z : ℤ) → lt_z z (pos 0) ≡ below0 z
 below_test (pos n) = le-ltb n 0 zero-le
 below_test (negsuc n) = refl
 
-pub size-lt : (n F : ℕ) → n < 2 ^ 64 → F ≤ 1027 → n / 2 ^ (1028 - F) < 2 ^ 63
-size-lt n F a b = let m : 64 ≤ 63 + (1028 - F) = omega arith in shr_lt 63 (1028 - F) (lt_of_lt_of_le a (pow_mono m))
+pub size-lt : (n F : ℕ) → n < 2 ^ 128 → F ≤ 1027 → n / 2 ^ 64 / 2 ^ (1028 - F) < 2 ^ 63
+size-lt n F a b = let m : 64 ≤ 63 + (1028 - F) = omega arith in shr_lt 63 (1028 - F) (lt_of_lt_of_le (shr_lt 64 64 a) (pow_mono m))
 
 module _ (y : Float) (s : ℤ) (k : SFits w64 s) (h : T (fits binary64 y)) (p : T (powered y)) (b : 965 ≤ field binary64 y) where
-  pub near_is : (g d : ℕ) (w : Wide) (u : Bool) (z : ℤ) → w.high < 2 ^ 64 → w.low < 2 ^ 64 → g ≡ nat_abs (word s) → d ≡ (rest binary64 y + 2 ^ 52) * 2 ^ 11 → value_of w ≡ g * d
-      → u ≡ unlike (lt_z (word s) (pos 0)) (sign binary64 y) → z ≡ signed u (w.high / 2 ^ (1028 - field binary64 y)) → power binary64 (word z) ≡ pow_at_def binary64 s y
-  near_is g d w u z a c eg ed ew eu ez =
+  pub near_is : (g d w : ℕ) (u : Bool) (z : ℤ) → w < 2 ^ 128 → g ≡ nat_abs (word s) → d ≡ (rest binary64 y + 2 ^ 52) * 2 ^ 11 → w ≡ g * d
+      → u ≡ unlike (lt_z (word s) (pos 0)) (sign binary64 y) → z ≡ signed u (w / 2 ^ 64 / 2 ^ (1028 - field binary64 y)) → power binary64 (word z) ≡ pow_at_def binary64 s y
+  near_is g d w u z a eg ed ew eu ez =
       ap (power binary64)
-      (signed_word u (w.high / 2 ^ (1028 - field binary64 y)) z (size-lt w.high (field binary64 y) a (field_most binary64 y h p)) ez
+      (signed_word u (w / 2 ^ 64 / 2 ^ (1028 - field binary64 y)) z (size-lt w (field binary64 y) a (field_most binary64 y h p)) ez
       ∙ ap₂ signed (eu ∙ ap (λ (x : Bool). unlike x (sign binary64 y)) (below_test (word s) ∙ ap below0 (to_z-of_z k)))
-      (ap (λ (n : ℕ). n / 2 ^ (1028 - field binary64 y)) (high_is w (g * d) c ew ∙ ap (λ (n : ℕ). n / 2 ^ 64) (ap₂ ◌*◌ (eg ∙ ap nat_abs (to_z-of_z k)) ed)) ∙ by_shift y (nat_abs s) h p b))
+      (ap (λ (n : ℕ). n / 2 ^ 64 / 2 ^ (1028 - field binary64 y)) (ew ∙ ap₂ ◌*◌ (eg ∙ ap nat_abs (to_z-of_z k)) ed) ∙ by_shift y (nat_abs s) h p b))
       ∙ by_digits y s h p

@@ -1,5 +1,5 @@
 -- y Λ of a double where Λ has two words: cut in two steps, of 32 digits and of the rest. Assumes nothing.
-use Rattle.std.proofs.Common.{◌≡◌, ℕ, ◌+◌, ◌-◌, ◌*◌, ◌/◌, ◌%◌, ◌^◌, ◌<◌, ◌≤◌, min, Bool, T, ℤ, sym, ap, ◌∙◌, subst, ap₂, inl, inr, le_refl, lt_of_le_of_lt, le_of_lt, mod-eq_of_lt, mul_assoc, mul_comm, mul-le-mul, div-le_self, arith, lit<, pow_pos, pow-add, shr-shr}
+use Rattle.std.proofs.Common.{◌≡◌, ℕ, ◌+◌, ◌-◌, ◌*◌, ◌/◌, ◌^◌, ◌<◌, ◌≤◌, min, Bool, T, ℤ, sym, ap, ◌∙◌, subst, ap₂, inl, inr, le_refl, lt_of_le_of_lt, le_of_lt, mul_assoc, mul_comm, mul-le-mul, div-le_self, arith, lit<, pow_pos, pow-add, shr-shr}
 use native.Mathlib.Nat.{mul-div-mul_right, mul-add-div_right}
 use lib.Ieee.{Float, binary64, fits, unlike}
 use Rattle.table.specs.Whole.{signed}
@@ -11,12 +11,13 @@ use Rattle.kernels.specs.Kernels.{powered, pow_at_def}
 use Rattle.kernels.proofs.Definitions.Sizes.{nat_abs_signed}
 use Rattle.kernels.proofs.Definitions.Natural.{lt-or-ge}
 use Rattle.kernels.proofs.whole.Divide.{below_is}
-use Rattle.kernels.proofs.power.Fields.{sign, places_is, field_most}
+use Rattle.kernels.specs.inner.Fields.{sign}
+use Rattle.kernels.proofs.power.Fields.{places_is, field_most}
 use Rattle.kernels.proofs.power.Answers.{past}
 use Rattle.kernels.proofs.pow.Double.{by_digits}
 
 -- in two words: a product of 103 digits and one of 85
-sum_lt : (d h l : ℕ) → d < 2 ^ 53 → h < 2 ^ 50 → l ≤ 2 ^ 32 → d * h + d * l / 2 ^ 32 < 2 ^ 128
+pub sum_lt : (d h l : ℕ) → d < 2 ^ 53 → h < 2 ^ 50 → l ≤ 2 ^ 32 → d * h + d * l / 2 ^ 32 < 2 ^ 128
 sum_lt d h l a b c = lt_of_le_of_lt (both (d * h) (d * l) (d * l / 2 ^ 32) (mul-le-mul (le_of_lt a) (le_of_lt b)) (mul-le-mul (le_of_lt a) c) (div-le_self (d * l) (2 ^ 32))) (lit< tt)
   where
     both : (u v q : ℕ) → u ≤ 2 ^ 53 * 2 ^ 50 → v ≤ 2 ^ 53 * 2 ^ 32 → q ≤ v → u + q ≤ 2 ^ 104
@@ -40,11 +41,11 @@ second_cut d w p h =
     join : (p : ℕ) → p ≤ 1048 → 32 + (1048 - p) + p ≡ 1080
     join p h = omega arith
 
-pub cut_is : (d p h l : ℕ) {a b c s r : ℕ} → d < 2 ^ 53 → p ≤ 1048 → h < 2 ^ 50 → l ≤ 2 ^ 32 → a ≡ d * h → b ≡ d * l → c ≡ b / 2 ^ 32 → s ≡ (a + c) % 2 ^ 128 → r ≡ s / 2 ^ (1048 - p)
+pub cut_is : (d p h l : ℕ) {a b r : ℕ} → p ≤ 1048 → a ≡ d * h → b ≡ d * l → r ≡ (a + b / 2 ^ 32) / 2 ^ (1048 - p)
     → r ≡ d * 2 ^ p * (h * 2 ^ 32 + l) / 2 ^ 1080
-cut_is d p h l hd hp hh hl ea eb ec es er =
+cut_is d p h l hp ea eb er =
     er
-    ∙ ap (λ (x : ℕ). x / 2 ^ (1048 - p)) (es ∙ ap₂ (λ (x y : ℕ). (x + y) % 2 ^ 128) ea (ec ∙ ap (λ (x : ℕ). x / 2 ^ 32) eb) ∙ mod-eq_of_lt (sum_lt d h l hd hh hl) ∙ first_cut d h l)
+    ∙ ap (λ (x : ℕ). x / 2 ^ (1048 - p)) (ap₂ (λ (x y : ℕ). x + y / 2 ^ 32) ea eb ∙ first_cut d h l)
     ∙ second_cut d (h * 2 ^ 32 + l) p hp
 
 -- ---- a double's size from 2 ^ 62 on

@@ -9,11 +9,10 @@ use Rattle.kernels.specs.Power.{hi, power}
 use Rattle.kernels.specs.Logarithm.{steps, binade, first64, below64, step_log_def}
 use Rattle.kernels.specs.Kernels.{nearest_of, powered, raised, pow_at_def, pow_def, ln_def}
 use Rattle.kernels.specs.inner.Logs.{steps_of, below_of_def, step_log_of, Logged}
-use Rattle.kernels.specs.declared.log_double.Log.{Log}
+use Rattle.kernels.specs.declared.log.Log.{Log}
 use Rattle.kernels.proofs.Definitions.Cases.{powered_finite, in_domain}
 use Rattle.kernels.proofs.ln.One.{one_bits_def, is_one, not-one, other}
 use Rattle.kernels.proofs.pow.Domain.{within}
-use Rattle.kernels.proofs.whole.Words.{word, back}
 use Rattle.kernels.proofs.power.Answers.{one, at_zero}
 
 -- ---- 1
@@ -38,12 +37,9 @@ steps_is (fin false m e) h n = sym (ap (λ (b : Bool). cond b (pos 0) (steps (bi
 
 -- ---- by what `log_f64` hands over
 module _ (x : Float) (g : Log) (h : T (positive x)) (n : to_bits binary64 x ≡ one_bits_def → ⊥) (l : Logged x g) where
-  j_is : word g.j ≡ steps_of x
-  j_is = back g.j 19 tt l.few ∙ l.steps_is
-
-  pub raised_is : (y : Float) → powered y ≡ true → pow_at_def binary64 (word g.j *ℤ pos (2 ^ 50) -ℤ pos (hi g.l (2 ^ 122 / N))) y ≡ pow_def binary64 x y
+  pub raised_is : (y : Float) → powered y ≡ true → pow_at_def binary64 (g.j *ℤ pos (2 ^ 50) -ℤ pos (hi g.l (2 ^ 122 / N))) y ≡ pow_def binary64 x y
   raised_is y p =
-      ap (λ (z : ℤ). pow_at_def binary64 z y) (ap₂ (λ (j : ℤ) (n : ℕ). j *ℤ pos (2 ^ 50) -ℤ pos (hi n (2 ^ 122 / N))) j_is l.below_is ∙ steps_is x h n) ∙ within binary64 x y h p
+      ap (λ (z : ℤ). pow_at_def binary64 z y) (ap₂ (λ (j : ℤ) (n : ℕ). j *ℤ pos (2 ^ 50) -ℤ pos (hi n (2 ^ 122 / N))) l.steps_is l.below_is ∙ steps_is x h n) ∙ within binary64 x y h p
 
-  pub nearest_is : nearest_of binary64 (word g.j *ℤ pos ((N + 128) / 2 ^ 8) -ℤ pos g.l) 64 ≡ ln_def binary64 x
-  nearest_is = ap₂ (λ (j : ℤ) (n : ℕ). nearest_of binary64 (j *ℤ pos ((N + 128) / 2 ^ 8) -ℤ pos n) 64) j_is l.below_is ∙ other x h n
+  pub nearest_is : nearest_of binary64 (g.j *ℤ pos ((N + 128) / 2 ^ 8) -ℤ pos g.l) 64 ≡ ln_def binary64 x
+  nearest_is = ap₂ (λ (j : ℤ) (n : ℕ). nearest_of binary64 (j *ℤ pos ((N + 128) / 2 ^ 8) -ℤ pos n) 64) l.steps_is l.below_is ∙ other x h n

@@ -15,7 +15,8 @@ use Rattle.kernels.specs.Kernels.{raised, powered, pow_at_def}
 use Rattle.kernels.proofs.Definitions.Cases.{powered_finite}
 use Rattle.kernels.proofs.whole.Divide.{signed_times, times_signed, times_pos, shr_same}
 use Rattle.kernels.proofs.whole.Words.{word, mag-le, shift_fits, signed_word}
-use Rattle.kernels.proofs.power.Fields.{sign, field, rest, sign_is, places_is, digits_is, field_most}
+use Rattle.kernels.specs.inner.Fields.{sign, field, rest}
+use Rattle.kernels.proofs.power.Fields.{sign_is, places_is, digits_is, field_most}
 use Rattle.kernels.proofs.power.Answers.{one, fallen, risen, at_zero}
 
 -- d 2 ^ p L in units of 2 ^ -130

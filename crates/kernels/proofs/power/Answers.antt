@@ -7,7 +7,7 @@ use Rattle.table.specs.Exact.{P, taylor, fact}
 use Rattle.table.specs.Entry.{entry}
 use Rattle.table.specs.Whole.{signed}
 use Rattle.kernels.specs.Power.{hi, coef, single1, double1, double2, double3, double4, part, significand, finish, power}
-use Rattle.kernels.specs.declared.whole.Parts.{Parts}
+use Rattle.kernels.specs.declared.parts.Parts.{Parts}
 use Rattle.kernels.specs.inner.Power.{Split}
 use Rattle.kernels.proofs.whole.Words.{word, shift_fits}
 

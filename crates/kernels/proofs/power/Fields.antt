@@ -1,13 +1,14 @@
 -- The fields of a float's pattern, its units by them, and the exponent's field of a y from -16 to 16. Assumes nothing.
-use Rattle.std.proofs.Common.{◌≡◌, ℕ, zero, suc, ◌+◌, ◌-◌, ◌*◌, ◌/◌, ◌%◌, ◌^◌, ◌<◌, ◌≤◌, Bool, cond, not, T, eqb, leb, ◌⊎◌, ℤ, sym, refl, ap, inl, inr, le_trans, le_of_eq, not-suc-le-zero, mul-le-mul_right, eq-zero-or-pos, le_of_mul-le-mul_right, arith, pow-add}
+use Rattle.std.proofs.Common.{◌≡◌, ℕ, zero, suc, ◌+◌, ◌-◌, ◌*◌, ◌^◌, ◌<◌, ◌≤◌, Bool, cond, not, T, eqb, ◌⊎◌, ℤ, sym, refl, ap, inl, inr, le_trans, le_of_eq, not-suc-le-zero, mul-le-mul_right, eq-zero-or-pos, le_of_mul-le-mul_right, arith, pow-add}
 use lib.Dec.{eqb-suc-zero}
-use lib.Ieee.{Float, nan, inf, fin, Format, hid, top, fits, to_bits, is_nan, binary32, binary64, prec, emax, low, up, down}
+use lib.Ieee.{Float, nan, inf, fin, Format, hid, fits, is_nan, binary32, binary64, prec, emax, low, up, down}
 use lib.Ieee.Scale.{finite}
 use lib.Ieee.Fits.{down_pos}
 use Rattle.soft.specs.Units.{split_def, units_def}
 use Rattle.soft.proofs.units.Value.{negative_is, measured, leading}
 use Rattle.soft.proofs.Rounding.Pattern.{pow_le_back}
 use Rattle.kernels.specs.Kernels.{powered}
+use Rattle.kernels.specs.inner.Fields.{sign, field, rest}
 use Rattle.kernels.proofs.Definitions.Cases.{powered_finite, at_most_16}
 
 pub no_nan : (x : Float) → T (finite x) → T (not (is_nan x))
@@ -15,16 +16,6 @@ unfolding is_nan
 no_nan nan h = absurd h
 no_nan (inf s) h = tt
 no_nan (fin s m e) h = tt
-
--- the sign, the exponent's field and the digits below the leading one
-abbrev pub sign : Format → Float → Bool
-sign f x = leb (top f) (to_bits f x)
-
-abbrev pub field : Format → Float → ℕ
-field f x = to_bits f x % top f / hid f
-
-abbrev pub rest : Format → Float → ℕ
-rest f x = to_bits f x % hid f
 
 -- x is ± digits 2 ^ places smallest values
 pub sign_is : (f : Format) (s : Bool) (m : ℕ) (e : ℤ) → T (fits f (fin s m e)) → sign f (fin s m e) ≡ s

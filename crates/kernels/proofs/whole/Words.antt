@@ -1,8 +1,6 @@
 -- What the machine reads back from a signed word's bits. Assumes nothing.
-use Rattle.std.proofs.Common.{◌≡◌, ℕ, zero, suc, ◌*◌, ◌^◌, ◌<◌, ◌≤◌, Bool, true, false, T, leb, ℤ, pos, negsuc, ◌-ℤ◌, ◌*ℤ◌, neg_ℤ, nat_abs, sym, refl, ap, ◌∙◌, subst, true≢false, lt_trans, le_refl, lt_of_lt_of_le, not-suc-le-zero, lt_of_le_of_lt, zero-add, arith, lit<, leb→le, pow_mono, to_z-of_z, w64, Fits, SFits, to_z, of_z, ltb-true}
-use lib.IntN.{+ℤ_idl}
-use lib.Signed.{mag, lt_z, mag_shr, non_neg, shr_z}
-use mir.Facts.{to_z_pos}
+use Rattle.std.proofs.Common.{◌≡◌, ℕ, zero, suc, ◌*◌, ◌^◌, ◌<◌, ◌≤◌, Bool, true, false, T, leb, ℤ, pos, negsuc, ◌-ℤ◌, ◌*ℤ◌, nat_abs, sym, ap, ◌∙◌, subst, lt_trans, le_refl, lt_of_lt_of_le, lt_of_le_of_lt, arith, lit<, leb→le, pow_mono, to_z-of_z, w64, Fits, SFits, to_z, of_z}
+use lib.Signed.{mag, mag_shr, non_neg, shr_z}
 use Rattle.table.specs.Whole.{signed, rest_z}
 use Rattle.kernels.proofs.Definitions.Sizes.{rest_lt}
 use Rattle.kernels.proofs.whole.Divide.{whole, part_lt}
@@ -61,29 +59,6 @@ rests z m q p s e f x y xe ye = record { part = part; left = left; cast = cast_o
     is : word (x -ℤ word (y *ℤ pos m)) ≡ pos (rest_z z m)
     is = to_z-of_z left ∙ exact
 
--- ---- the magnitude, by the sign
-module _ (k : ℤ) (f : SFits w64 k) (b : nat_abs k < 2 ^ 63) where
-  module _ (t : lt_z (word k) (pos 0) ≡ true) where
-    opposite : pos 0 -ℤ word k ≡ pos (nat_abs k)
-    opposite = ap (λ (y : ℤ). pos 0 -ℤ y) (to_z-of_z f) ∙ go k (ap (λ (y : ℤ). lt_z y (pos 0)) (sym (to_z-of_z f)) ∙ t)
-      where
-        go : (k : ℤ) → lt_z k (pos 0) ≡ true → pos 0 -ℤ k ≡ pos (nat_abs k)
-        go (pos n) t = absurd (not-suc-le-zero (ltb-true n 0 t))
-        go (negsuc n) t = ap pos (zero-add (suc n))
-
-    pub opposite_fits : SFits w64 (pos 0 -ℤ word k)
-    opposite_fits = subst (SFits w64) (sym opposite) (record { sfits = b })
-
-    pub opposite_is : word (pos 0 -ℤ word k) ≡ pos (nat_abs k)
-    opposite_is = to_z-of_z opposite_fits ∙ opposite
-
-  pub same_cast : lt_z (word k) (pos 0) ≡ false → T (non_neg (word k)) × Fits w64 (nat_abs (word k))
-  same_cast t = cast_of (to_z-of_z f ∙ go k (ap (λ (y : ℤ). lt_z y (pos 0)) (sym (to_z-of_z f)) ∙ t)) b
-    where
-      go : (k : ℤ) → lt_z k (pos 0) ≡ false → k ≡ pos (nat_abs k)
-      go (pos n) t = refl
-      go (negsuc n) t = absurd (true≢false t)
-
 -- ---- a natural number with a sign
 pub mag-le : (s : Bool) (n : ℕ) → mag (signed s n) ≤ n
 mag-le false n = le_refl n
@@ -92,16 +67,6 @@ mag-le true (suc n) = omega arith
 
 signed-fits : (s : Bool) (n : ℕ) → n < 2 ^ 63 → SFits w64 (signed s n)
 signed-fits s n h = record { sfits = lt_of_le_of_lt (mag-le s n) h }
-
-module _ (n : ℕ) (h : n < 2 ^ 63) where
-  turned : pos 0 -ℤ to_z w64 n ≡ neg_ℤ (pos n)
-  turned = ap (λ (y : ℤ). pos 0 -ℤ y) (to_z_pos w64 h) ∙ +ℤ_idl (neg_ℤ (pos n))
-
-  pub turned_fits : SFits w64 (pos 0 -ℤ to_z w64 n)
-  turned_fits = subst (SFits w64) (sym turned) (signed-fits true n h)
-
-  pub turned_is : word (pos 0 -ℤ to_z w64 n) ≡ neg_ℤ (pos n)
-  turned_is = to_z-of_z turned_fits ∙ turned
 
 pub signed_word : (s : Bool) (n : ℕ) (z : ℤ) → n < 2 ^ 63 → z ≡ signed s n → word z ≡ signed s n
 signed_word s n z h e = ap word e ∙ to_z-of_z (signed-fits s n h)

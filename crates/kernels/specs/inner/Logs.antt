@@ -4,7 +4,7 @@ use Rattle.std.specs.Int.Signed.{mag}
 use Rattle.std.specs.Float.{nan, inf, fin, Format}
 use Rattle.table.specs.Entry.{first_from}
 use Rattle.kernels.specs.Logarithm.{binade, first64, steps, below64, logarithm, step_log_def}
-use Rattle.kernels.specs.declared.log_double.Log.{Log}
+use Rattle.kernels.specs.declared.log.Log.{Log}
 
 unfoldable pub log_of : Format → Float → ℤ
 unfolding logarithm

@@ -5,7 +5,7 @@ use Rattle.std.specs.Int.Signed.{shr_z}
 use Rattle.std.specs.Float.{Format}
 use Rattle.std.specs.Float.Ieee.{emax}
 use Rattle.table.specs.Whole.{rest_z}
-use Rattle.kernels.specs.declared.whole.Parts.{Parts}
+use Rattle.kernels.specs.declared.parts.Parts.{Parts}
 
 -- z = k 2 ^ 52 + i 2 ^ 44 + f, k rounded down
 pub record Split (z : ℤ) (r : Parts) : Type 0 where

@@ -2,8 +2,7 @@
 use Prim.Native.Nat.{ℕ, zero, suc, ◌<◌}
 use mathlib.Core.Path.{◌≡◌, refl}
 use native.Mathlib.Nat.{le-suc, lt_of_lt_of_le, lt-suc_self}
-use Rattle.checks.specs.Faults.{first_fault_def}
-use Rattle.checks.specs.declared.fault.Fault.{Fault}
+use Rattle.checks.specs.Faults.{Fault, first_fault_def}
 
 pub faults_same : (f g : ℕ → Fault) (n : ℕ) → ((i : ℕ) → i < n → f i ≡ g i) → first_fault_def f n ≡ first_fault_def g n
 unfolding first_fault_def

@@ -8,6 +8,7 @@ use native.Mathlib.Omega.{arith}
 use lib.Dec.{T, eqb-suc-zero, lit<, lit≤}
 use lib.Pow.{pow_pos}
 use lib.Ieee.{Float, nan, inf, fin, binary32, of_bits, up, down, unlike, round, neg, is_nan, add, sub, mul, div, lt, le, eq}
+use lib.Ieee.Bits.{is_true}
 use lib.Ieee.Fits.{up_pos, down_pos}
 use lib.Ieee.Order.{round_mono}
 use lib.Ieee.Positive.{positive, positive-finite}
@@ -96,10 +97,6 @@ times_number (fin false zero e) y p n = absurd p
 times_number (fin false (suc m) e) nan p n = absurd (true≢false n)
 times_number (fin false (suc m) e) (inf t) p n = rw (eqb-suc-zero m) refl
 times_number (fin false (suc m) e) (fin t k d) p n = round_number (unlike false t) (suc m * up e * (k * up d)) (down e * down d)
-
-is_true : (b : Bool) → T b → b ≡ true
-is_true true t = refl
-is_true false t = absurd t
 
 as_positive : (x : Float) → T (positive x) → aboveNone x ≡ true
 as_positive nan p = absurd p

@@ -1,6 +1,6 @@
 -- The losses of calls without a fault: a column's is at most 2 ^ 27 for each review that it scores, and the total of up to 2 ^ 22 of them is a number. Assumes nothing.
 use mathlib.Core.Path.{◌≡◌, refl, sym, ◌∙◌, subst}
-use mathlib.Core.Bool.{Bool, true, false, not, ◌&&◌, ◌||◌, cond, true≢false}
+use mathlib.Core.Bool.{Bool, true, false, not, ◌||◌, cond, true≢false}
 use mathlib.Core.List.{List}
 use Prim.Native.Nat.{ℕ, zero, suc, ◌+◌, ◌-◌, ◌*◌, ◌^◌, ◌≤◌, ◌<◌}
 use native.Mathlib.Nat.{le_of_eq, lt_of_le_of_lt, le_refl, mul-le-mul_left, mul-le-mul_right}
@@ -10,6 +10,7 @@ use lib.Dec.{T, eqb, ltb, leb}
 use lib.Ieee.{Float, binary32, binary64, of_bits, fits, eq}
 use lib.Ieee.Positive.{positive}
 use lib.ListN.{get_or}
+use Rattle.std.proofs.lemmas.Bool.{and_parts}
 use Rattle.domain.specs.Doubles.{◌+ᵈ◌, zero64}
 use Rattle.domain.specs.Floats.{clamp_def}
 use Rattle.domain.specs.Limits.{zero32, s_min_def, s_max_def}
@@ -147,12 +148,7 @@ module _ (w : List Float) (singles : (k : ℕ) → T (fits binary32 (w ! k))) (b
 
         split : (later (last_number_def p x column) ≡ true) × (non_zero weight ≡ true)
         unfolding card_label
-        split = both (later (last_number_def p x column)) (non_zero weight) c
-          where
-            both : (a b : Bool) → a && b ≡ true → (a ≡ true) × (b ≡ true)
-            both true true e = (refl, refl)
-            both true false e = absurd (true≢false (sym e))
-            both false b e = absurd (true≢false (sym e))
+        split = and_parts (later (last_number_def p x column)) (non_zero weight) c
 
         read : ReadTarget (last_day_def p x column) label weight
         read =

@@ -7,13 +7,13 @@ use native.Mathlib.Omega.{arith}
 use borrow.Author.Tests.{eqb-true, eq-eqb, ltb-true, ltb-false}
 use lib.Dec.{T, eqb, ltb}
 use lib.Ieee.{Float}
+use Rattle.std.proofs.lemmas.Bool.{or_right}
 use Rattle.domain.specs.Limits.{day_good_def}
 use Rattle.domain.specs.Weights.{◌!◌}
 use Rattle.checks.specs.Align.{is_end_def}
 use Rattle.checks.specs.Batch.{Prefixes, Cards, length_at, history, target_weight_at, label_at, weight_at_def}
 use Rattle.checks.specs.Reads.{rating_good_def, weight_good_def, label_good_def, later, is_last, non_zero, prefix_day, card_day_def, card_rating, card_label, check, first, prefix_row_def, card_score_def, card_row_def, target_def}
-use Rattle.checks.specs.Faults.{no_fault_def, fault_at_def, or_else, first_fault_def, rows_fault, target_fault, prefix_column_def, prefix_fault_def, card_column_def, card_fault_def}
-use Rattle.checks.specs.declared.fault.Fault.{Fault}
+use Rattle.checks.specs.Faults.{Fault, no_fault_def, fault_at_def, or_else, first_fault_def, rows_fault, target_fault, prefix_column_def, prefix_fault_def, card_column_def, card_fault_def}
 
 -- ---- no number is found
 first_both : (a b : ℕ) → first a b ≡ 0 → (a ≡ 0) × (b ≡ 0)
@@ -115,13 +115,9 @@ module _ (end last : Bool) (row : ℕ) (day rating weight label : Float) (h : ca
   pub step_read : last ≡ false → ReadRow row day rating
   unfolding card_rating card_day_def prefix_day
   step_read e = record {
-    rating_good = checked (end || not last) (rating_good_def rating) 5 parts.0 (rw e (or-true end));
+    rating_good = checked (end || not last) (rating_good_def rating) 5 parts.0 (rw e (or_right end true refl));
     day_good = λ g. day_read (rw e g);
   }
-    where
-      or-true : (b : Bool) → b || true ≡ true
-      or-true true = refl
-      or-true false = refl
 
   pub score_read : ReadScore row label weight
   unfolding card_score_def

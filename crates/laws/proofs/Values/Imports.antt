@@ -12,10 +12,12 @@ use lib.IntN.{ℤ, pos, negsuc, neg_ℤ, ◌*ℤ◌}
 use lib.Pow.{pow_pos}
 use lib.Signed.{shr_z}
 use lib.Ieee.{Float, nan, inf, fin, binary32, up, down, size, round, fits, is_nan, neg, sum, add, sub, mul, div, lt, le, eq, of_bits}
+use lib.Ieee.Bits.{is_true}
 use lib.Ieee.Fits.{and_i, and_r, down_pos, up_pos, div-fits}
 use lib.Ieee.Positive.{positive as above0}
 use lib.Ieee.Order.{le_of_values}
 use lib.Ieee.Scale.{finite}
+use Rattle.std.proofs.lemmas.Bool.{and_right}
 use Rattle.table.specs.Exact.{P, taylor, fact}
 use Rattle.table.specs.Entry.{entry, first_from}
 use Rattle.table.specs.Whole.{below0}
@@ -96,15 +98,11 @@ no_stability w interval retention h =
     let x = max_def interval s_min_def *ᶠ factor_def (neg (w ! 20)) in
     ap (λ (p : Float). x /ᶠ (p -ᶠ one)) (no_power retention (one /ᶠ neg (w ! 20)) h) ∙ ap (λ (p : Float). x /ᶠ p) (nan_less one) ∙ over_nan x
 
-and-false : (b : Bool) → (b && false) ≡ false
-and-false true = refl
-and-false false = refl
-
 no_state : (w : List Float) (ease interval retention : Float) → positive (sm2_stability_def w interval retention) ≡ false → finite_memory (sm2_raw w ease interval retention) ≡ false
 unfolding sm2_raw
 no_state w ease interval retention h =
     let s = sm2_stability_def w interval retention in
-    ap (λ (d : Float). finite s && finite d) (no_difficulty w ease s retention h) ∙ and-false (finite s)
+    ap (λ (d : Float). finite s && finite d) (no_difficulty w ease s retention h) ∙ and_right (finite s) false refl
 
 -- ---- the answer
 module _ (w : List Float) (ease interval retention : Float) where
@@ -125,10 +123,6 @@ module _ (w : List Float) (ease interval retention : Float) where
   box_good : weights_refusal_def w ≡ 0 → T good → scalar_refusal_def w good ≡ 0
   unfolding scalar_refusal_def
   box_good h g = rw (h, is_true good g)
-    where
-      is_true : (b : Bool) → T b → b ≡ true
-      is_true true t = refl
-      is_true false t = absurd t
 
   -- 14 where the formula leaves no state
   pub fourteen : weights_refusal_def w ≡ 0 → T good → raw ≡ false → (sm2_scalar w ease interval retention).refusal ≡ 14
@@ -363,7 +357,7 @@ by_power x y Q n h = go (powered y) refl
   where
     go : (b : Bool) → powered y ≡ b → Q (pow32 x y)
     go true e = h (holds e)
-    go false e = subst Q (sym (nan_only (pow32 x y) (pow_nan binary32 x y ∙ ap (λ (b : Bool). not (positive x && b)) e ∙ ap not (and-false (positive x))))) n
+    go false e = subst Q (sym (nan_only (pow32 x y) (pow_nan binary32 x y ∙ ap (λ (b : Bool). not (positive x && b)) e ∙ ap not (and_right (positive x) false refl)))) n
 
 pub factor_plus : (v : Float) → T (above0 v) → T (plus (factor_def (neg v)))
 unfolding factor_def

@@ -1,20 +1,11 @@
 -- How an entry that has its refusal's number goes on: refused, or accepted with 21 weights. Assumes nothing.
-use Rattle.std.proofs.Common.{◌≡◌, ℕ, zero, suc, Bool, true, false, cond, eqb, List, length, sym, refl, ◌∙◌, suc-ne-zero, arith, eq-eqb, ne_eqb, eqb-true}
+use Rattle.std.proofs.Common.{◌≡◌, ℕ, zero, suc, Bool, true, false, cond, eqb, List, sym, refl, ◌∙◌, suc-ne-zero, arith, eq-eqb, ne_eqb, eqb-true}
 use lib.Ieee.{Float}
-use Rattle.domain.proofs.weights.Accepted.{accepted_length}
-use Rattle.domain.proofs.weights.Copy.{copy_whole}
-use Rattle.domain.specs.Weights.{copy_def, weights_refusal_def}
+use Rattle.domain.proofs.Refusals.{never_0}
+use Rattle.domain.specs.Refusals.{number}
+use Rattle.domain.specs.Weights.{weights_refusal_def}
+use Rattle.domain.specs.declared.refusal.Refusal.{Refusal}
 use Rattle.model_v6.specs.Answers.{scalar_refusal_def, scalar_def, refused, accepted}
-
-pub answers_refused :
-    (w : List Float) (good : Bool) (x : Float) (n : ℕ) → n ≡ scalar_refusal_def w good → (n ≡ 0 → ⊥) → refused n ≡ scalar_def w good x
-unfolding scalar_def
-answers_refused w good x n e h = rw (← e, ne_eqb _ 0 h)
-
-pub answers_accepted :
-    (w : List Float) (good : Bool) (x : Float) (n : ℕ) → n ≡ scalar_refusal_def w good → n ≡ 0 → accepted x ≡ scalar_def w good x
-unfolding scalar_def
-answers_accepted w good x n e h = rw (← e, eq-eqb _ 0 h)
 
 -- no refusal: neither by the number m that came before, nor by a test that gives suc z
 pub none_before : (z m : ℕ) (a good : Bool) → a ≡ eqb m 0 → cond a (cond good 0 (suc z)) m ≡ 0 → m ≡ 0
@@ -46,10 +37,20 @@ answers_weights w good h = weights_of w (weights_refusal_def w) good refl h
 pub answers_good : (w : List Float) (good : Bool) (n : ℕ) → n ≡ scalar_refusal_def w good → n ≡ 0 → good ≡ true
 answers_good w good n e h = good_of w (weights_refusal_def w) good refl (sym e ∙ h)
 
--- the weights were accepted
-pub answers_length : (w : List Float) (good : Bool) (n : ℕ) → n ≡ scalar_refusal_def w good → n ≡ 0 → length w ≡ 21
-answers_length w good n e h = accepted_length w (answers_weights w good (sym e ∙ h))
+-- ---- how an entry goes on by its `?`
+-- the weights' refusal
+pub weights_refused :
+    (w : List Float) (good : Bool) (x : Float) (e : Refusal) → number e ≡ weights_refusal_def w → refused (number e) ≡ scalar_def w good x
+unfolding scalar_def scalar_refusal_def
+weights_refused w good x e h = rw (← h, ne_eqb _ 0 (never_0 e), ne_eqb _ 0 (never_0 e))
 
--- so the copy is the weights themselves
-pub answers_copied : (w v : List Float) (good : Bool) (n : ℕ) → n ≡ scalar_refusal_def w good → n ≡ 0 → v ≡ copy_def w → v ≡ w
-answers_copied w v good n e h c = c ∙ copy_whole w (answers_length w good n e h)
+pub argument_refused :
+    (w : List Float) (good : Bool) (x : Float) → weights_refusal_def w ≡ 0 → good ≡ false → refused 13 ≡ scalar_def w good x
+unfolding scalar_def scalar_refusal_def
+argument_refused w good x h g = rw (h, g)
+
+pub taken : (w : List Float) (good : Bool) (x : Float) → weights_refusal_def w ≡ 0 → good ≡ true → accepted x ≡ scalar_def w good x
+unfolding scalar_def scalar_refusal_def
+taken w good x h g = rw (h, g)
+
+pub ruleset entry = (weights_refused, argument_refused, taken)

@@ -2,8 +2,7 @@
 use Rattle.std.proofs.Common.{Bool, cond, eqb}
 use Rattle.model_v6.specs.declared.rows.Claimed.{Claimed}
 use Rattle.model_v6.specs.declared.rows.Field.TheVariants.{Stability, Difficulty, Interval}
-use Rattle.model_v6.specs.declared.rows.RowCheck.{RowCheck}
-use Rattle.model_v6.specs.declared.rows.RowCheck.TheVariants.{Accepted, Wrong}
+use Rattle.model_v6.specs.Rows.{RowCheck, Accepted, Wrong}
 
 abbrev pub picked : (a b c : Bool) → RowCheck
 picked a b c = cond a (cond b (cond c Accepted (Wrong Interval)) (Wrong Difficulty)) (Wrong Stability)

@@ -7,16 +7,15 @@ use lib.Ieee.Scale.{finite}
 use borrow.Author.Tests.{eqb-false}
 use Rattle.soft.proofs.units.Value.{holds}
 use Rattle.domain.specs.Limits.{day_good_def}
-use Rattle.domain.specs.Weights.{copy_def}
 use Rattle.model_v6.specs.Answers.{finite_memory, scalar_refusal_def, refused, accepted, scalar_def, state_def, next_state_scalar_def, interval_scalar}
 use Rattle.model_v6.specs.Curve.{interval_def}
 use Rattle.model_v6.specs.NextState.{next_state_def}
 use Rattle.model_v6.specs.Rows.{ours_def, verdict_def, row_refusal_def, row_check, refusal_of_def, field_number_def, verdict_of_def}
 use Rattle.model_v6.specs.declared.rows.Claimed.{Claimed}
-use Rattle.model_v6.specs.declared.rows.RowCheck.TheVariants.{Refused, Accepted}
+use Rattle.model_v6.specs.Rows.{Refused, Accepted}
 use Rattle.model_v6.specs.declared.state.MemoryState.{MemoryState}
 use Rattle.model_v6.proofs.rows.Picked.{picked, same_stability, same_difficulty, same_interval}
-use Rattle.model_v6.proofs.answers.Answering.{answers_weights, answers_good, answers_copied}
+use Rattle.model_v6.proofs.answers.Answering.{answers_weights, answers_good}
 
 -- ---- by the three comparisons
 all_agree : (a b c : Bool) → verdict_of_def (picked a b c) ≡ 0 → (a ≡ true) × (b ≡ true) × (c ≡ true)
@@ -87,10 +86,6 @@ module _ (w : List Float) (state : MemoryState) (day retention : Float) (n : ℕ
       → verdict_def claimed (ours_def w state day rating retention) ≡ row_check w state day rating retention claimed
   unfolding row_check
   row_judged h rating claimed = rw (← e, eq-eqb _ 0 h)
-
-  pub row_copied : n ≡ 0 → (v : List Float) → v ≡ copy_def w → v ≡ w
-  unfolding row_refusal_def
-  row_copied h v = answers_copied w v _ n e h
 
 -- ---- a refusal's number is the row's, 0 where there is a verdict
 judged_number : (a b c : Bool) → refusal_of_def (picked a b c) ≡ 0

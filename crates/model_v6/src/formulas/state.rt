@@ -1,6 +1,6 @@
 // What a review makes of a card's memory state, and a first review of none.
 ghost use Rattle.std.specs.Prelude.{◌≡◌, ◌<◌};
-ghost use Rattle.model_v6.specs.NextState.{clamp_rating_def, stability_after_def, next_state_def, first_state_def};
+ghost use Rattle.model_v6.specs.NextState.{stability_after_def, next_state_def, first_state_def};
 
 use crate::formulas::curve::{power_forgetting_curve, whole_days};
 use crate::formulas::difficulty::{init_difficulty, next_difficulty};
@@ -11,20 +11,8 @@ use crate::state::MemoryState;
 use domain::difficulty::clamp_difficulty;
 use domain::limits::clamp_stability;
 
-// rating.clamp(1, 4)
-fn clamp_rating(rating: u32) -> u32
-    ensures { result ≡ clamp_rating_def rating }
-{
-    if rating < 1 {
-        return 1;
-    }
-    if rating > 4 {
-        return 4;
-    }
-    rating
-}
-
-// The stability after a review of the clamped state (s, d), at the retrievability r.
+/// The stability after a review of the clamped state (s, d), at the retrievability r.
+#[tactic(auto, unfolding(crate::specs::NextState::stability_after_def))]
 fn stability_after(w: &[f32; 21], s: f32, d: f32, delta_t: f32, rating: u32, r: f32) -> f32
     ensures { result ≡ stability_after_def w.now s d delta_t rating r }
 {
@@ -37,10 +25,11 @@ fn stability_after(w: &[f32; 21], s: f32, d: f32, delta_t: f32, rating: u32, r: 
     stability_after_success(w, s, r, d, rating)
 }
 
+#[tactic(auto, using(crate::proofs::Next::clamped), unfolding(crate::specs::NextState::next_state_def))]
 pub fn next_state(w: &[f32; 21], state: MemoryState, delta_t: f32, rating: u32) -> MemoryState
     ensures { result ≡ next_state_def w.now state delta_t rating }
 {
-    let rating = clamp_rating(rating);
+    let rating = rating.clamp(1, 4);
     let delta_t = whole_days(delta_t);
     let s = clamp_stability(state.stability);
     let d = clamp_difficulty(state.difficulty);
@@ -53,7 +42,7 @@ pub fn next_state(w: &[f32; 21], state: MemoryState, delta_t: f32, rating: u32) 
     }
 }
 
-// Weight 0, 1, 2 or 3 by a rating of 1 to 4, and the first difficulty, clamped.
+/// Weight 0, 1, 2 or 3 by a rating of 1 to 4, and the first difficulty, clamped.
 pub fn first_state(w: &[f32; 21], rating: u32) -> MemoryState
     requires { (0 < rating) × (rating < 5) }
     ensures { result ≡ first_state_def w.now rating }

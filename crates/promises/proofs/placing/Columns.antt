@@ -10,9 +10,8 @@ use Rattle.domain.specs.Limits.{decimal, zero32}
 use Rattle.domain.specs.Weights.{◌!◌}
 use Rattle.checks.specs.Align.{target_weight_def}
 use Rattle.checks.specs.Batch.{Prefixes, Cards, length_at, history, target_read_at, target_weight_at}
-use Rattle.checks.specs.Faults.{fault_at_def, or_else, rows_fault, target_fault, prefix_column_def, card_column_def}
+use Rattle.checks.specs.Faults.{Fault, fault_at_def, or_else, rows_fault, target_fault, prefix_column_def, card_column_def}
 use Rattle.checks.specs.Reads.{weight_max_def, non_zero, check, first, prefix_row_def, target_def}
-use Rattle.checks.specs.declared.fault.Fault.{Fault}
 use Rattle.promises.specs.FirstFault.{prefix_bad, card_bad}
 use Rattle.promises.proofs.shifting.Faults.{number}
 use Rattle.promises.proofs.placing.Search.{InColumn, at_blank, at_bad, rows_blank, rows_none, rows_found}

@@ -5,8 +5,7 @@ use mathlib.Core.Path.{◌≡◌, refl, sym, ap, ap₂, ◌∙◌}
 use native.Mathlib.Nat.{le-suc, lt_of_lt_of_le, lt-suc_self}
 use borrow.Author.Tests.{ne_eqb, eqb-true, eqb-false, ltb-true}
 use lib.Dec.{eqb, ltb}
-use Rattle.checks.specs.Faults.{no_fault_def, fault_at_def, or_else, first_fault_def, rows_fault}
-use Rattle.checks.specs.declared.fault.Fault.{Fault}
+use Rattle.checks.specs.Faults.{Fault, no_fault_def, fault_at_def, or_else, first_fault_def, rows_fault}
 use Rattle.promises.specs.FirstFault.{before}
 use Rattle.promises.proofs.shifting.Faults.{each_none, number}
 

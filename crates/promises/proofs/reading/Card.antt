@@ -15,8 +15,7 @@ use Rattle.checks.proofs.align.First.{first_same}
 use Rattle.checks.proofs.align.Counted.{counts_same, weighed_same}
 use Rattle.checks.proofs.reads.Unread.{and_same, card_day_read, card_label_read}
 use Rattle.checks.specs.Batch.{Cards, length_at, first_at, at, weight_at_def}
-use Rattle.checks.specs.Faults.{first_fault_def, card_column_def, card_fault_def}
-use Rattle.checks.specs.declared.fault.Fault.{Fault}
+use Rattle.checks.specs.Faults.{Fault, first_fault_def, card_column_def, card_fault_def}
 use Rattle.checks.specs.Refusals.{loss_refusal_def, grad_refusal_def, longest_of, cards_sized, card_loss_refusal_def, card_grad_refusal_def}
 use Rattle.checks.proofs.Orders.{grad_accepted}
 use Rattle.analytic_v6.specs.Cards.{card_loss_def, card_slots_def, cards_loss_and_grad, cards_slots, cards_loss}

@@ -13,8 +13,7 @@ use Rattle.checks.specs.Reads.{non_zero, prefix_day}
 use Rattle.checks.proofs.align.First.{first_same}
 use Rattle.checks.proofs.reads.Unread.{and_same}
 use Rattle.checks.specs.Batch.{Prefixes, length_at, first_at, at, target_read_at, target_weight_at}
-use Rattle.checks.specs.Faults.{first_fault_def, prefix_column_def, prefix_fault_def}
-use Rattle.checks.specs.declared.fault.Fault.{Fault}
+use Rattle.checks.specs.Faults.{Fault, first_fault_def, prefix_column_def, prefix_fault_def}
 use Rattle.checks.specs.Refusals.{loss_refusal_def, grad_refusal_def, longest_of, prefixes_sized, prefix_loss_refusal_def, prefix_grad_refusal_def}
 use Rattle.checks.proofs.Orders.{grad_accepted}
 use Rattle.forward.proofs.Agreement.{by_cases}

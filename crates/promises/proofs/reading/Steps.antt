@@ -7,6 +7,7 @@ use native.Mathlib.Nat.{suc-ne-zero}
 use borrow.Author.Tests.{ne_eqb}
 use lib.Dec.{eqb}
 use lib.Ieee.{Float, eq, of_bits}
+use Rattle.std.proofs.lemmas.Bool.{or_right as or-true}
 use Rattle.domain.specs.Limits.{zero32}
 use Rattle.domain.specs.Weights.{◌!◌}
 use Rattle.checks.specs.Reads.{later, non_zero, prefix_day}
@@ -78,10 +79,6 @@ module _ (t u : Table) (steps steps' : ℕ → ℕ) (same : SameSteps t u steps 
 
 -- an accepted call reads what its steps read, and weight 20
 module _ (t : Table) (steps : ℕ → ℕ) (refusal : ℕ) (accepted : eqb refusal 0 ≡ true) where
-  or-true : (a b : Bool) → b ≡ true → a || b ≡ true
-  or-true true b e = refl
-  or-true false b e = e
-
   reads_all : (k : ℕ) → call_reads refusal t steps k ≡ eqb k 20 || steps_read_def t steps k
   unfolding call_reads
   reads_all k = rw accepted

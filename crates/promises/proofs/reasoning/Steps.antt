@@ -3,6 +3,7 @@ use Prim.Native.Nat.{ℕ, ◌-◌}
 use mathlib.Core.Bool.{Bool, true, false, not, cond}
 use mathlib.Core.Path.{◌≡◌, refl, sym, ap, ◌∙◌}
 use lib.Ieee.{Float, lt, eq, le, is_nan, of_bits}
+use Rattle.std.proofs.lemmas.Bool.{and_parts}
 use Rattle.domain.specs.Floats.{◌*ᶠ◌, max_def}
 use Rattle.domain.specs.Limits.{zero32, one, two, three, four}
 use Rattle.domain.specs.Weights.{◌!◌}
@@ -20,7 +21,7 @@ use Rattle.explain.specs.declared.reasons.Reason.{Reason}
 use Rattle.explain.specs.declared.reasons.Reason.TheVariants.{Padding, First, SameDayRaw, SameDayOne, LapseRaw, LapseFloor, Success, SuccessHard, SuccessEasy}
 use Rattle.promises.specs.Reasoned.{multiplier, recall, raw, floor, holds}
 use Rattle.promises.proofs.reasoning.Ends.{one_ends}
-use Rattle.promises.proofs.reasoning.Tests.{both, picked, holding}
+use Rattle.promises.proofs.reasoning.Tests.{picked, holding}
 
 abbrev pub told : Stepped → Reason
 told x = reason_of_def x.step.branch x.step.rating
@@ -146,7 +147,7 @@ module _ (p : RuntimeParams) (q : State) (day rating : Float) (row : ℕ) where
 
     pub one_is : eq day zero32 ≡ true → is_floored_def rating (multiplier p q day rating row) ≡ true → pre_clamp.s ≡ (clamp_state_def q).s *ᶠ one
     unfolding short_def short_value_def is_floored_def max_def is_nan of_bits
-    one_is s m = let b = both (le two rating) (lt (multiplier p q day rating row) one) m in taken ∙ rw (s, b.0, not_above (multiplier p q day rating row) b.1)
+    one_is s m = let b = and_parts (le two rating) (lt (multiplier p q day rating row) one) m in taken ∙ rw (s, b.0, not_above (multiplier p q day rating row) b.1)
 
     pub raw_is : eq day zero32 ≡ false → eq rating one ≡ true → lt (floor p q day rating row) (raw p q day rating row) ≡ false → pre_clamp.s ≡ raw p q day rating row
     unfolding lapse_def lapse_move_def

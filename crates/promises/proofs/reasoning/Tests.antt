@@ -3,12 +3,9 @@
 use mathlib.Core.Bool.{Bool, true, false, not, ◌&&◌, cond, true≢false}
 use mathlib.Core.Path.{◌≡◌, refl, sym}
 use borrow.Author.Tests.{not-true}
+use Rattle.std.proofs.lemmas.Bool.{and_parts}
 use Rattle.explain.specs.declared.reasons.Reason.{Reason}
 use Rattle.explain.specs.declared.reasons.Reason.TheVariants.{Padding, First, SameDayRaw, SameDayOne, LapseRaw, LapseFloor, Success, SuccessHard, SuccessEasy}
-
-pub both : (a b : Bool) → a && b ≡ true → (a ≡ true) × (b ≡ true)
-both true b h = (refl, h)
-both false b h = absurd (true≢false (sym h))
 
 module _ (padding first same_day one_taken again floored hard easy : Bool) where
   abbrev pub picked : Reason
@@ -77,9 +74,9 @@ picked_holds false false false m false l false h false g = good_left h (g refl)
 -- a review, on the same day or on a later one
 pub review_of : (z first b c : Bool) → ((not z && not first) && b) && c ≡ true → (z ≡ false) × (first ≡ false) × (b ≡ true) × (c ≡ true)
 review_of z first b c e =
-    let p = both ((not z && not first) && b) c e in
-    let q = both (not z && not first) b p.0 in
-    let r = both (not z) (not first) q.0 in
+    let p = and_parts ((not z && not first) && b) c e in
+    let q = and_parts (not z && not first) b p.0 in
+    let r = and_parts (not z) (not first) q.0 in
     (not-true z r.0, not-true first r.1, q.1, p.1)
 
 module _ (z first s m o l t h f : Bool) (g : z ≡ false → one_of o t h f ≡ true) where
@@ -88,16 +85,16 @@ module _ (z first s m o l t h f : Bool) (g : z ≡ false → one_of o t h f ≡ 
 
   pub no_other : (reason : Reason) → holding z first s m o l t f h reason ≡ true → reason ≡ the
   no_other Padding e = rw e
-  no_other First e = let p = both (not z) first e in rw (not-true z p.0, p.1)
+  no_other First e = let p = and_parts (not z) first e in rw (not-true z p.0, p.1)
   no_other SameDayRaw e = let p = review_of z first s (not m) e in rw (p.0, p.1, p.2, p.3)
   no_other SameDayOne e = let p = review_of z first s m e in rw (p.0, p.1, p.2, p.3)
   no_other LapseRaw e =
       let p = review_of z first (not s) (o && not l) e in
-      let q = both o (not l) p.3 in
+      let q = and_parts o (not l) p.3 in
       rw (p.0, p.1, not-true s p.2, q.0, not-true l q.1)
   no_other LapseFloor e =
       let p = review_of z first (not s) (o && l) e in
-      let q = both o l p.3 in
+      let q = and_parts o l p.3 in
       rw (p.0, p.1, not-true s p.2, q.0, q.1)
   no_other Success e =
       let p = review_of z first (not s) h e in

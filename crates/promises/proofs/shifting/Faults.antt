@@ -6,8 +6,7 @@ use native.Mathlib.Nat.{le-suc, lt_of_lt_of_le, lt-suc_self, not-suc-le-zero}
 use native.Mathlib.Omega.{arith}
 use borrow.Author.Tests.{eq-eqb, eqb-true, eqb-false}
 use lib.Dec.{eqb, eqb-suc-zero}
-use Rattle.checks.specs.Faults.{no_fault_def, fault_at_def, or_else, first_fault_def, rows_fault}
-use Rattle.checks.specs.declared.fault.Fault.{Fault}
+use Rattle.checks.specs.Faults.{Fault, no_fault_def, fault_at_def, or_else, first_fault_def, rows_fault}
 
 pub else_both : (a b : Fault) → (or_else a b).refusal ≡ 0 → (a.refusal ≡ 0) × (b.refusal ≡ 0)
 unfolding or_else

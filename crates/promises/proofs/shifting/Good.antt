@@ -9,6 +9,7 @@ use lib.Dec.{T, eqb, eqb→eq, lit≤}
 use lib.Ieee.{Float, nan, inf, fin, eq, lt, le, of_bits, up, down}
 use lib.Ieee.Fits.{and_l, down_pos}
 use lib.IntN.{ℤ, pos}
+use Rattle.std.proofs.lemmas.Bool.{or_right}
 use Rattle.domain.specs.Limits.{decimal, zero32}
 use Rattle.domain.specs.Floats.{within}
 use Rattle.checks.specs.Reads.{weight_max_def, weight_good_def, non_zero}
@@ -28,10 +29,6 @@ most_is : weight_max_def ≡ most
 unfolding weight_max_def decimal
 most_is = refl
 
-or-true : (a b : Bool) → b ≡ true → a || b ≡ true
-or-true true b e = refl
-or-true false b e = e
-
 -- a = 0 * c and 0 < d
 less : (a c d : ℕ) → a ≡ 0 * c → 0 < d → (a < d) × (0 < a + d)
 less a c d e l = (rw (e, zero-mul c) l, omega arith)
@@ -45,7 +42,7 @@ module _ (m : ℕ) (e : ℤ) where
   above : (s : Bool) → m * up e * 1 ≡ 0 * down e → eq least (fin s m e) ≡ true
   unfolding eq
   above s h =
-      rw (eq-eqb (0 * down e) (m * up e * 1) (sym h), eq-eqb (0 * down e) 0 (zero-mul (down e))) (or-true (beq false s) true refl)
+      rw (eq-eqb (0 * down e) (m * up e * 1) (sym h), eq-eqb (0 * down e) 0 (zero-mul (down e))) (or_right (beq false s) true refl)
 
 between : (w : Float) → T (eq w least) → within w least most ≡ true
 unfolding eq le
@@ -53,7 +50,7 @@ between nan h = absurd h
 between (inf s) h = absurd h
 between (fin s m e) h =
     let z = eqb→eq (m * up e * 1) (0 * down e) (and_l (eqb (m * up e * 1) (0 * down e)) (beq s false || eqb (m * up e * 1) 0) h) in
-    rw (below m e s z) (rw (or-true (lt least (fin s m e)) (eq least (fin s m e)) (above m e s z)))
+    rw (below m e s z) (rw (or_right (lt least (fin s m e)) (eq least (fin s m e)) (above m e s z)))
 
 pub zero_good : (w : Float) → non_zero w ≡ false → weight_good_def w ≡ true
 unfolding non_zero

@@ -7,12 +7,11 @@ use borrow.Author.Tests.{eq-eqb, eqb-false}
 use lib.Dec.{T, eqb}
 use Rattle.domain.specs.Weights.{◌!◌}
 use Rattle.checks.specs.Batch.{Prefixes, length_at, at, history_of}
-use Rattle.checks.specs.Faults.{or_else, prefix_rows_def, target_fault, prefix_column_def, prefix_fault_def}
+use Rattle.checks.specs.Faults.{Fault, or_else, prefix_rows_def, target_fault, prefix_column_def, prefix_fault_def}
 use Rattle.checks.specs.Reads.{non_zero}
 use Rattle.checks.specs.Refusals.{prefix_grad_refusal_def}
 use Rattle.checks.specs.declared.align.Align.{Align}
 use Rattle.checks.specs.declared.align.Align.TheVariants.{Start, End}
-use Rattle.checks.specs.declared.fault.Fault.{Fault}
 use Rattle.checks.proofs.align.Counted.{target_kept}
 use Rattle.checks.proofs.Orders.{grad_accepted}
 use Rattle.forward.proofs.Agreement.{by_cases}

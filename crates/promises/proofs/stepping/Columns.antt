@@ -17,8 +17,7 @@ use Rattle.checks.specs.Columns.{through}
 use Rattle.columns.specs.ForwardPass.{record_at, stored_def}
 use Rattle.columns.specs.Records.{Field, column_of_def, number_of, place, room_def, load_branch_def, load_def}
 use Rattle.columns.specs.StepRecords.{no_step_def, steps_def}
-use Rattle.columns.proofs.Kept.{path_length, path_read, path_kept, path_field}
-use Rattle.columns.proofs.step_records.Steps.{steps_length, steps_read, steps_kept}
+use Rattle.columns.proofs.Kept.{path_length, path_read, path_kept, path_field, steps_length, steps_read, steps_kept}
 
 -- columns c of n c steps each
 module _ (p : RuntimeParams) (hist : ℕ → History) (n : ℕ → ℕ) where

@@ -43,6 +43,3 @@ module _ (b n : ℕ) (l_lt : suc b < 2 ^ 13) (n_lt : n < 2 ^ 13) where
 
   pub exponent_is : read (to_z w64 n -ℤ pos l) ≡ minus n l
   exponent_is = to_z-of_z exponent_fits ∙ as_pos
-
-  pub exponent_read : (k : ℤ) → k ≡ minus n l → read k ≡ minus n l
-  exponent_read k e = to_z-of_z (subst (SFits w64) (sym e) minus_fits) ∙ e

@@ -1,16 +1,14 @@
 -- A number of 63 digits times a power of two, rounded to a format: which digits are dropped, what is kept, and the bits.
 -- The fraction is v * 2 ^ x / 2 ^ (low + g): x and g count from the format's smallest value, so nothing here is negative. Assumes nothing.
-use Rattle.std.proofs.Common.{◌≡◌, ℕ, zero, suc, ◌+◌, ◌-◌, ◌*◌, ◌/◌, ◌%◌, ◌^◌, ◌<◌, ◌≤◌, min, Bool, true, false, cond, ◌⊎◌, pos, sym, refl, ap, ◌∙◌, subst, inl, inr, le_trans, le_of_eq, lt_of_lt_of_le, lt_of_le_of_lt, mul-le-mul_right, mul_assoc, mul_comm, div-lt_iff_lt-mul, eq-zero-or-pos, add_comm, eq-or-lt_of_le, mul-pos, le-div_iff_mul-le, zero-mul, mul_left_comm, arith, lit≤, pow_pos, pow_mono, pow-add, shl_lt}
+use Rattle.std.proofs.Common.{◌≡◌, ℕ, ◌+◌, ◌-◌, ◌*◌, ◌/◌, ◌%◌, ◌^◌, ◌<◌, ◌≤◌, min, Bool, true, false, cond, ◌⊎◌, pos, sym, refl, ap, ◌∙◌, subst, inl, inr, le_trans, le_of_eq, lt_of_lt_of_le, lt_of_le_of_lt, mul-le-mul_right, mul_assoc, mul_comm, div-lt_iff_lt-mul, eq-zero-or-pos, add_comm, eq-or-lt_of_le, mul-pos, le-div_iff_mul-le, zero-mul, mul_left_comm, arith, lit≤, pow_pos, pow_mono, pow-add, shl_lt}
 use Prim.Native.Nat.{compare}
 use native.Mathlib.Nat.{mul-div-mul_right}
-use lib.Dec.{eqb-suc-zero}
-use lib.Ieee.{Float, fin, Format, binary32, binary64, prec, emax, low, hid, ones, top, size, units, round, of_bits}
+use lib.Ieee.{fin, Format, binary32, binary64, prec, low, hid, ones, top, size, round, of_bits}
 use lib.Ieee.Digits.{size-lt, size-le, size_reaches}
-use lib.Ieee.Exact.{HasValue, units_val}
-use lib.Ieee.Fits.{two, nearest-le, core, round_is}
+use lib.Ieee.Fits.{two, nearest-le}
 use lib.Ieee.Nearest.{closest, closest_same, nearest-ge}
 use lib.Ieee.Scale.{round_same}
-use Rattle.soft.specs.inner.Pack.{normalised, pattern_of, placed_bits}
+use Rattle.soft.specs.inner.Pack.{normalised}
 use Rattle.soft.proofs.Rounding.Pattern.{Kept, exactly, pow_lt_back, round_pattern}
 
 -- t is where the normal range begins: an exponent of t or less drops no digit of the format's smallest value
@@ -99,18 +97,6 @@ module _ (f : Format) (g t v x : ℕ) (r : Range f g t) (lo : 2 ^ 62 ≤ v) (hi 
   pub placed : (s : Bool) → of_bits f (cond s (top f) 0 + min ((x - t) * hid f + closest v (2 ^ d)) (ones f * hid f)) ≡ round f s (v * 2 ^ x) (2 ^ (low f + g))
   placed s = round_pattern f s (v * 2 ^ x) (2 ^ (low f + g)) (x - t) (closest v (2 ^ d)) drop_is kept_is kept
 
-  -- its value, where it stays below the format's end
-  pub placed_value : (s : Bool) → closest v (2 ^ d) * 2 ^ (x - t) < 2 ^ (low f + suc (emax f))
-      → HasValue (round f s (v * 2 ^ x) (2 ^ (low f + g))) s (closest v (2 ^ d) * 2 ^ (x - t)) (2 ^ low f)
-  placed_value s h =
-      subst (λ (y : Float). HasValue y s (closest v (2 ^ d) * 2 ^ (x - t)) (2 ^ low f))
-      (sym (round_is f s (v * 2 ^ x) (2 ^ (low f + g)) ∙ ap (λ (j : ℕ). core f s (v * 2 ^ x * 2 ^ low f) (2 ^ (low f + g)) j) drop_is
-      ∙ ap (λ (y : ℕ). units f s y (x - t)) kept_is))
-      (units_val f s (closest v (2 ^ d)) (x - t) h)
-
-  pub kept-le : closest v (2 ^ d) ≤ 2 ^ prec f
-  kept-le = q_le
-
 -- ---- any number of at most 63 digits: it is first moved up to 63
 back63 : (z : ℕ) → z ≤ 63 → 63 - z + z ≡ 63
 back63 z h = omega arith
@@ -140,17 +126,6 @@ normalised_ge v p h =
     le_trans (le_of_eq (ap (λ (y : ℕ). 2 ^ y) (sym (sixty_two z (size_pos v p) (digits63 v h))) ∙ pow-add 2 (z - 1) (63 - z)))
     (mul-le-mul_right (2 ^ (63 - z)) (size_reaches v (z - 1) (pred_lt z (size_pos v p))))
 
--- ±0
-zero_bits : (f : Format) (s : Bool) → round f s 0 1 ≡ of_bits f (cond s (top f) 0 + 0)
-unfolding round of_bits
-zero_bits binary32 true = refl
-zero_bits binary32 false = refl
-zero_bits binary64 true = refl
-zero_bits binary64 false = refl
-
-pub round-zero : (f : Format) (s : Bool) (b : ℕ) → 0 < b → of_bits f (cond s (top f) 0 + 0) ≡ round f s 0 b
-round-zero f s b h = sym (round_same f s 0 b 0 1 h (lit≤ tt) (zero-mul 1 ∙ sym (zero-mul b)) ∙ zero_bits f s)
-
 none_is : (f : Format) (s : Bool) → round f s 0 1 ≡ fin s 0 (pos 0)
 unfolding round
 none_is binary32 true = refl
@@ -160,20 +135,3 @@ none_is binary64 false = refl
 
 pub round_none : (f : Format) (s : Bool) (b : ℕ) → 0 < b → round f s 0 b ≡ fin s 0 (pos 0)
 round_none f s b h = round_same f s 0 b 0 1 h (lit≤ tt) (zero-mul 1 ∙ sym (zero-mul b)) ∙ none_is f s
-
-pub place : (f : Format) (s : Bool) (g t w v x : ℕ) → Range f g t → v < 2 ^ 63 → w + 63 ≡ low f + g
-    → of_bits f (cond s (top f) 0 + placed_bits g t (hid f) (ones f) v x) ≡ round f s (v * 2 ^ x) (2 ^ w)
-place f s g t w zero x r h e = round-zero f s (2 ^ w) (pow_pos w) ∙ ap (λ (y : ℕ). round f s y (2 ^ w)) (sym (zero-mul (2 ^ x)))
-place f s g t w (suc u) x r h e =
-    let v = suc u in
-    let z = size v in
-    let p : 0 < v = omega arith in
-    ap (λ (b : _). of_bits f (cond s (top f) 0 + cond b 0 (pattern_of g t (hid f) (ones f) (normalised v) (x + z)))) (eqb-suc-zero u)
-    ∙ placed f g t (normalised v) (x + z) r (normalised_ge v p h) (normalised_lt v h) s
-    ∙ round_same f s (normalised v * 2 ^ (x + z)) (2 ^ (low f + g)) (v * 2 ^ x) (2 ^ w) (pow_pos (low f + g)) (pow_pos w)
-    (join v (2 ^ (63 - z)) (2 ^ x) (2 ^ z) (2 ^ w) (2 ^ (x + z)) (2 ^ (low f + g)) (pow-add 2 x z)
-    (ap (λ (y : ℕ). 2 ^ y) (sym e) ∙ pow-add 2 w 63 ∙ ap (λ (y : ℕ). 2 ^ w * y) (ap (λ (y : ℕ). 2 ^ y) (sym (back63 z (digits63 v h))) ∙ pow-add 2 (63 - z) z)))
-  where
-    join : (v n x z w xz l : ℕ) → xz ≡ x * z → l ≡ w * (n * z) → v * n * xz * w ≡ v * x * l
-    join v n x z w xz l a b = ap (λ (y : ℕ). v * n * y * w) a
-        ∙ simp (mul_assoc, mul_comm, mul_left_comm) (simp (mul_assoc, mul_comm, mul_left_comm) at (ap (λ (y : ℕ). v * x * y) (sym b)))

@@ -127,6 +127,3 @@ digits_pos f s m e k = go (eq-zero-or-pos d)
 -- ---- what a need has of a test and of `is_finite`
 pub holds : {b : Bool} → b ≡ true → T b
 holds e = subst T (sym e) tt
-
-pub fails : {b : Bool} → b ≡ false → T b → ⊥
-fails e t = subst T e t

@@ -1,31 +1,25 @@
-use mathlib.Core.Path.{◌∙◌}
-use Rattle.checks.specs.Faults.{unplaced}
-use Rattle.batch.proofs.layout.Headers.{accepted_file, refused_file, accepted_sections}
-use Rattle.batch.proofs.Fits.{fits_in}
-use Rattle.batch.specs.File.{file_fault_def}
-use borrow.Author.Rules.{rules}
+use Rattle.std.proofs.Common.{refl, subst, false}
+use Rattle.std.proofs.lemmas.Result.{err_from_is_err_and}
+use Rattle.checks.specs.Faults.{PlacedWhere}
+use Rattle.batch.specs.File.{file_fault_def, file_reads, call_fault_def, call_reads}
+use Rattle.batch.proofs.Formed.{formed, refused_place}
 use Rattle.batch.proofs.fault.file_fault.Goals as goal
 
-pub returns-then-h-ne0 : goal.returns-then-h-ne0
-unfolding file_fault_def unplaced
-returns-then-h-ne0 c =
-    let file = c.args.file.now in
-    rw (refused_file file (λ e. c.if-h-ne0.true (rw c.header_of-h.ensures e)))
+pub returns-in_err-sections-clause-place : goal.returns-in_err-sections-clause-place
+returns-in_err-sections-clause-place c =
+    let p = err_from_is_err_and c.from_residual.result c.from_residual.ensures.1 in
+    rw (p.1, p.2) (refused_place c.args.file.now _ c.in_err-sections.ensures.header)
 
-pub sections_fault-requires : goal.sections_fault-requires
-sections_fault-requires c =
-    let file = c.args.file.now in
-    let e = c.header_of-h.ensures in
-    let w = accepted_file file (rw e at c.if-h-ne0.false) in
-    let f = fits_in file w _ (e ∙ accepted_sections file w) in
-    (f.0, search (rules, f), search (rules, f))
-
-pub returns : goal.returns
+pub returns-clause-fault : goal.returns-clause-fault
 unfolding file_fault_def
-returns c =
-    let file = c.args.file.now in
-    let e = c.header_of-h.ensures in
-    let w = accepted_file file (rw e at c.if-h-ne0.false) in
-    let h = e ∙ accepted_sections file w in
-    let r = c.sections_fault.ensures in
-    rw w (rw h at r)
+returns-clause-fault c =
+    let r = c.read-2.ensures in
+    let s = r.sections in
+    formed c.args.file.now call_fault_def _ _ _ _ _ c.in_ok-sections.ensures.header refl r.cells r.lengths (rw s at c.check.ensures.fault)
+
+pub returns-clause-place : goal.returns-clause-place
+unfolding file_reads
+returns-clause-place c =
+    let r = c.read-2.ensures in
+    let s = r.sections in
+    subst (λ b. PlacedWhere b c.check.result) (formed c.args.file.now call_reads _ _ _ _ false c.in_ok-sections.ensures.header refl r.cells r.lengths refl) (rw s at c.check.ensures.place)

@@ -1,18 +1,12 @@
-use Prim.Native.Nat.{◌+◌}
-use native.Mathlib.Omega.{arith}
-use Rattle.batch.proofs.words.Patterns.{word_past}
+use Rattle.std.proofs.Common.{[], ◌∙◌}
+use Rattle.batch.proofs.words.Patterns.{word_past, word_in}
 use Rattle.batch.proofs.words.word_at.Goals as goal
 
-pub returns-then-n-from : goal.returns-then-n-from
-returns-then-n-from c =
-    let a = c.args in word_past a.file.now (a.from + a.i) (omega (arith, c.if-n-from.true))
+pub returns-in-Some : goal.returns-in-Some
+returns-in-Some c =
+    let a = c.in-Some.ensures.lookup.3 in
+    let e = c.as_chunks.ensures in
+    c.from_le_bytes.ensures ∙ word_in c.args.file.now _ _ c.args.k e.front a.0 e.front_len (a.1 [])
 
-pub returns-then-n-from-2 : goal.returns-then-n-from-2
-returns-then-n-from-2 c =
-    let a = c.args in word_past a.file.now (a.from + a.i) (omega (arith, c.if-n-from-2.true, c.if-n-from.false))
-
-pub whole_word-requires : goal.whole_word-requires
-whole_word-requires c = omega (arith, c.if-n-from-2.false, c.if-n-from.false)
-
-pub returns : goal.returns
-returns c = c.whole_word.ensures
+pub returns-in-None : goal.returns-in-None
+returns-in-None c = word_past c.args.file.now c.args.k (rw c.as_chunks.ensures.front_len at c.in-None.ensures.lookup.3)

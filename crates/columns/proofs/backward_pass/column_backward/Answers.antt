@@ -1,21 +1,11 @@
-use Rattle.std.proofs.Common.{◌≡◌, refl, arith, rules}
-use Rattle.columns.specs.BackwardPass.{start_grad}
+use Rattle.std.proofs.Common.{arith}
 use Rattle.columns.proofs.backward_pass.BackTurns.{back_turn, back_done}
 use Rattle.columns.proofs.backward_pass.column_backward.Goals as goal
 
-pub loop-i-init : goal.loop-i-init
-unfolding start_grad
-loop-i-init c = (search rules, refl, refl)
-
-pub loop-i-preserved : goal.loop-i-preserved
-loop-i-preserved c =
-    let l = c.loop-i in (
-      search rules,
-      search rules,
-      back_turn _ _ _ l.i l.g _ _ _ _ _ _ c.loop-i-test.true c.load_step-step.ensures c.read_f64-g_r.ensures c.step_backward-g.ensures.0 c.step_backward-g.ensures.1 l.invariant.2,
-    )
+pub loop-row-preserved : goal.loop-row-preserved
+loop-row-preserved g c =
+    let l = c.loop-row in
+    back_turn _ _ _ l.row l.g _ _ _ _ _ _ c.loop-row-test.true c.load-step.ensures c.cell_or-g_r.ensures c.step_backward-g.ensures.0 c.step_backward-g.ensures.1 l.invariant
 
 pub returns : goal.returns
-returns c =
-    let l = c.loop-i in
-    let e : l.i ≡ 0 = omega (arith, c.loop-i-test.false) in back_done _ _ _ l.i _ _ _ e l.invariant.2
+returns g c = let l = c.loop-row in back_done _ _ _ l.row _ _ _ (omega arith) l.invariant

@@ -1,12 +1,16 @@
-use Rattle.std.proofs.Common.{◌≡◌, ◌-◌, ◌^◌, ◌<◌, ◌≤◌, length}
-use Rattle.checks.specs.Batch.{history_of, view, weights_of}
-use Rattle.columns.specs.ForwardPass.{state_at, stored_def, loss_at, grads_def}
+use Rattle.std.proofs.Common.{◌≡◌}
+use Rattle.columns.specs.ForwardPass.{run_at, grads_def}
+use Rattle.columns.specs.Layouts.{left_by}
+use Rattle.checks.specs.Decks.{rows_of, history_at, weights_at}
 use Rattle.columns.proofs.forward_pass.card_forward_recorded.Given as goal
 
-abbrev pub invariant-loop-i : goal.invariant-loop-i
-invariant-loop-i l =
-    (l.i ≤ l.n) × (l.n < 2 ^ 32) × (length l.records ≡ length l.initial.records) × (length l.step_grads ≡ length l.initial.step_grads) × (l.q ≡ state_at l.p (history_of l.t_hist l.r_hist l.batch l.column l.first) l.i) × (l.loss ≡ loss_at l.p (history_of l.t_hist l.r_hist l.batch l.column l.first) (view l.labels l.batch l.column) (weights_of l.align l.r_hist l.weights l.batch l.column) l.i) ×
-    (l.records ≡ stored_def l.p (history_of l.t_hist l.r_hist l.batch l.column l.first) l.i l.initial.records) × (l.step_grads ≡ grads_def l.p (history_of l.t_hist l.r_hist l.batch l.column l.first) (view l.labels l.batch l.column) (weights_of l.align l.r_hist l.weights l.batch l.column) l.i l.initial.step_grads)
-
-abbrev pub decreases-loop-i : goal.decreases-loop-i
-decreases-loop-i l = l.n - l.i
+abbrev pub invariant-loop-row : goal.invariant-loop-row
+invariant-loop-row g l =
+    let h = history_at l.card.history in
+    let labels = rows_of l.card.labels in
+    let weights = weights_at l.card in
+    record {
+      run : l.run ≡ run_at l.p h labels weights l.row;
+      records : l.records ≡ left_by g.L.Layout.store l.p h l.row l.initial.records;
+      step_grads : l.step_grads ≡ grads_def l.p h labels weights l.row l.initial.step_grads;
+    }

@@ -10,4 +10,4 @@ returns-then-is_tiny c = rw (sym c.is_tiny.ensures ∙ c.if-is_tiny.true)
 pub returns : goal.returns
 unfolding expm1_def
 returns c =
-    rw (sym c.is_tiny.ensures ∙ c.if-is_tiny.false, c.narrow.ensures, c.exp_f64-y.ensures, c.f32_to_f64_with_nan.ensures)
+    rw (sym c.is_tiny.ensures ∙ c.if-is_tiny.false, c.narrow.ensures, c.exp-y.ensures, c.from.ensures)

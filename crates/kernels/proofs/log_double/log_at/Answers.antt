@@ -29,6 +29,12 @@ overflow_cast-j c = (j_line (goal.at.overflow_cast-j c).After-index_at-i).sum.ca
 pub overflow_add-j : goal.overflow_add-j
 overflow_add-j c = (j_line (goal.at.overflow_add-j c).After-index_at-i).sum.fits
 
+pub invariant_of-result : goal.invariant_of-result
+invariant_of-result c =
+    let a = log_given c.args.k c.index_at-i.result c.ranges.k c.requires.1 (most (goal.at.invariant_of-result c).After-index_at-i) c.args.m c.gap-g.result c.below-l.result (index (goal.at.invariant_of-result c).After-index_at-i) c.gap-g.ensures.0 c.below-l.ensures.0 c.below-l.ensures.1 in
+    record { few = a.2; short = a.3 }
+
 pub returns : goal.returns
 returns c =
-    log_given c.args.k c.index_at-i.result c.ranges.k c.requires.1 (most (goal.at.returns c).After-index_at-i) c.args.m c.gap-g.result c.below-l.result (index (goal.at.returns c).After-index_at-i) c.gap-g.ensures.0 c.below-l.ensures.0 c.below-l.ensures.1
+    let a = log_given c.args.k c.index_at-i.result c.ranges.k c.requires.1 (most (goal.at.returns c).After-index_at-i) c.args.m c.gap-g.result c.below-l.result (index (goal.at.returns c).After-index_at-i) c.gap-g.ensures.0 c.below-l.ensures.0 c.below-l.ensures.1 in
+    (a.0, a.1)

@@ -1,4 +1,4 @@
--- ln_f32's first interval, x = 1 + n / 2 ^ 23, n < 2 ^ 14: within 255 + 2 ^ 31 L units of 2 ^ -56 of L's series. Assumes nothing.
+-- Single ln's first interval, x = 1 + n / 2 ^ 23, n < 2 ^ 14: within 255 + 2 ^ 31 L units of 2 ^ -56 of L's series. Assumes nothing.
 use mathlib.Core.Path.{◌≡◌}
 use Prim.Native.Nat.{ℕ, zero, ◌+◌, ◌*◌, ◌/◌, ◌^◌, ◌≤◌, ◌<◌}
 use native.Mathlib.Nat.{le_trans, mul-le-mul_left, mul-le-mul_right, le_of_mul-le-mul_left, div-mul-le_self, le_of_lt}

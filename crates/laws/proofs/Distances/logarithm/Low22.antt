@@ -1,4 +1,4 @@
--- The chain of pow_f32, in steps, against the polynomial l. Every number of the chain is taken times N. Assumes nothing.
+-- The chain of single pow, in steps, against the polynomial l. Every number of the chain is taken times N. Assumes nothing.
 use mathlib.Core.Path.{◌≡◌, refl}
 use Prim.Native.Nat.{ℕ, zero, ◌+◌, ◌*◌, ◌/◌, ◌^◌, ◌≤◌, ◌<◌}
 use native.Mathlib.Nat.{le_trans, le_refl, mul-le-mul, mul-le-mul_left, mul-le-mul_right, le_of_mul-le-mul_left, div-mul-le_self}

@@ -1,4 +1,4 @@
--- The chain of ln_f32 against the polynomial l: never above it, and below by 2 ^ -48, and a small part of g. Assumes nothing.
+-- The chain of single ln against the polynomial l: never above it, and below by 2 ^ -48, and a small part of g. Assumes nothing.
 use mathlib.Core.Path.{◌≡◌, refl, ap, subst}
 use Prim.Native.Nat.{ℕ, zero, ◌+◌, ◌*◌, ◌/◌, ◌^◌, ◌≤◌, ◌<◌}
 use native.Mathlib.Nat.{le_trans, le_refl, mul-le-mul, mul-le-mul_left, mul-le-mul_right, le_of_mul-le-mul_left, div-mul-le_self}

@@ -1,4 +1,4 @@
--- ln_f32 before its rounding, from the two sides of its core: arithmetic alone. v = N, r = N56, y = n 2 ^ 72, u is L's numerator over 2 ^ 64 d. Assumes nothing.
+-- Single ln before its rounding, from the two sides of its core: arithmetic alone. v = N, r = N56, y = n 2 ^ 72, u is L's numerator over 2 ^ 64 d. Assumes nothing.
 use mathlib.Core.Path.{◌≡◌, ap}
 use Prim.Native.Nat.{ℕ, ◌+◌, ◌*◌, ◌^◌, ◌≤◌}
 use native.Mathlib.Nat.{mul-le-mul_left, mul-le-mul_right}

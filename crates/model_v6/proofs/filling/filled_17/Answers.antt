@@ -3,5 +3,5 @@ use Rattle.model_v6.proofs.filling.filled_17.Goals as goal
 
 pub returns : goal.returns
 returns c =
-    rw (c.copy_weights-w.ensures, c.fma_f32-w4.ensures, c.ln_f32-w5.ensures, c.fma_f32.ensures)
+    rw (c.copy_weights-w.ensures, c.fma_f32.ensures, c.ln.ensures, c.fma_f32-2.ensures)
     (stores_17 _ c.requires)

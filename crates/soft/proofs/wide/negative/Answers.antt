@@ -17,8 +17,8 @@ masked q (suc (suc s)) m n e h k l = absurd (omega arith)
 
 pub returns : goal.returns
 returns c =
-    let m = c.wrapping_sub_u64-mask.result in
+    let m = c.wrapping_neg.result in
     let s = c.args.x / 2 ^ 63 in
     masked ((m + s) / 2 ^ 64) s m c.args.n
-    (ap (λ (x : ℕ). (m + s) / 2 ^ 64 * 2 ^ 64 + x) (sym c.wrapping_sub_u64-mask.ensures.value) ∙ div-add-mod' (m + s) (2 ^ 64))
+    (ap (λ (x : ℕ). (m + s) / 2 ^ 64 * 2 ^ 64 + x) (sym c.wrapping_neg.ensures) ∙ div-add-mod' (m + s) (2 ^ 64))
     (shr_lt 1 63 c.ranges.x.fits) (omega arith) c.ranges.n.fits

@@ -1,13 +1,17 @@
 -- `wide::product` meets its contract: the columns with their carries, less what the signs count, are u * v. Assumes nothing.
-use Rattle.std.proofs.Common.{◌≡◌, ℕ, ◌+◌, ◌*◌, ◌/◌, ◌%◌, ◌^◌, ◌<◌, sym, ap, ◌∙◌, subst, le_trans, le_of_eq, lt_of_lt_of_le, lt_of_le_of_lt, le_of_lt, mul-le-mul_right, mod-lt, add_comm, mul-le-mul_left, mul-suc, arith, pow_pos, pow-add, shl_lt, shr_lt, w64, Fits}
-use native.Mathlib.Nat.{add-lt-add_of_lt_of_le}
-use lib.Arith.{digits_lt}
+use Rattle.std.proofs.Common.{◌≡◌, ℕ, ◌+◌, ◌-◌, ◌*◌, ◌/◌, ◌%◌, ◌^◌, ◌<◌, sym, ap, ◌∙◌, subst, le_trans, le_of_eq, lt_of_lt_of_le, lt_of_le_of_lt, le_of_lt, mul-le-mul_right, mod-lt, mod-eq_of_lt, add-zero, add_comm, mul-div_cancel, mul-le-mul_left, mul-suc, arith, pow_pos, pow-add, shl_lt, shr_lt, w64, Fits}
+use native.Mathlib.Nat.{add-lt-add_of_lt_of_le, mul-mod_left}
+use lib.Arith.{digits_lt, mod-mul}
 use lib.Pow.{split, add-lt-pow}
 use lib.Bits.{bit_and, and_mask, mask_lt}
 use mir.Facts.{Fits-bits}
 use Rattle.soft.proofs.wide.Columns.{signed, halves}
-use Rattle.soft.proofs.wide.Shifts.{cut}
 use Rattle.soft.proofs.wide.product.Goals as goal
+
+-- what a shift to the left keeps
+cut : (a N K : ℕ) → 0 < N → 0 < K → a * N % (K * N) ≡ a % K * N
+cut a N K n k =
+    mod-mul (a * N) k n ∙ (λ i. mul-div_cancel a n i % K * N + mul-mod_left a N i) ∙ add-zero (a % K * N)
 
 -- the low 32 bits of a number, as the program takes them
 abbrev low : ℕ → ℕ
@@ -50,6 +54,10 @@ low_fits n m =
     (subst (λ (k : ℕ). k + low m < 2 ^ 64) (sym (cut n (2 ^ 32) (2 ^ 32) (pow_pos 32) (pow_pos 32)))
     (digits_lt {q = n % 2 ^ 32} {m = 2 ^ 32} {c = 2 ^ 32} (mod-lt n (pow_pos 32)) (mask_lt m 32)))
 
+-- a - b modulo 2 ^ 64, and back
+wrapped : (a b : ℕ) → b < 2 ^ 64 → ((a + (2 ^ 64 - b)) % 2 ^ 64 + b) % 2 ^ 64 ≡ a % 2 ^ 64
+wrapped a b h = omega arith
+
 -- the contract from what each call ensures
 abbrev Meets : (lo : ℕ → ℕ) → Type 0
 Meets lo =
@@ -78,8 +86,21 @@ overflow_mul-p0 c = product_fits (mask_lt c.args.u 32) (mask_lt c.args.v 32)
 pub overflow_mul-p2 : goal.overflow_mul-p2
 overflow_mul-p2 c = product_fits (shr_lt 32 32 c.ranges.u.fits) (shr_lt 32 32 c.ranges.v.fits)
 
+-- the differences, as the program takes them
+abbrev x_of : (u : ℕ) → ℕ
+x_of u = (u / 2 ^ 32 + (2 ^ 64 - low u)) % 2 ^ 64
+
+abbrev y_of : (v : ℕ) → ℕ
+y_of v = (low v + (2 ^ 64 - v / 2 ^ 32)) % 2 ^ 64
+
+word : (n : ℕ) → n % 2 ^ 64 < 2 ^ 64
+word n = mod-lt n (pow_pos 64)
+
+small : {n : ℕ} → n < 2 ^ 32 → n < 2 ^ 64
+small h = omega arith
+
 pub overflow_mul-d : goal.overflow_mul-d
-overflow_mul-d c = product_fits (mask_lt c.wrapping_sub_u64-x.result 32) (mask_lt c.wrapping_sub_u64-y.result 32)
+overflow_mul-d c = product_fits (mask_lt (x_of c.args.u) 32) (mask_lt (y_of c.args.v) 32)
 
 pub overflow_add-t : goal.overflow_add-t
 overflow_add-t c =
@@ -91,7 +112,7 @@ overflow_add-w c =
 
 pub overflow_add-c : goal.overflow_add-c
 overflow_add-c c =
-    column_fits (mask_lt (second_of low c.args.u c.args.v) 32) (mask_lt c.wrapping_sub_u64-x.result 32) (mask_lt c.wrapping_sub_u64-y.result 32)
+    column_fits (mask_lt (second_of low c.args.u c.args.v) 32) (mask_lt (x_of c.args.u) 32) (mask_lt (y_of c.args.v) 32)
 
 pub overflow_add-g : goal.overflow_add-g
 overflow_add-g c =
@@ -106,7 +127,16 @@ overflow_add-low c =
 
 pub returns : goal.returns
 returns c =
-    by_mask c.args.u c.args.v c.wrapping_sub_u64-x.result c.wrapping_sub_u64-y.result c.wrapping_sub_u64-k.result c.wrapping_sub_u64-high.result
-    c.ranges.u.fits c.ranges.v.fits (omega arith) (omega arith) (omega arith) c.wrapping_sub_u64-x.ensures.value c.wrapping_sub_u64-y.ensures.value
-    (ap (λ (n : ℕ). (c.wrapping_sub_u64-k.result + n) % 2 ^ 64) (sym c.negative.ensures) ∙ c.wrapping_sub_u64-k.ensures.value ∙ c.wrapping_add_u64-h.ensures.value)
-    (ap (λ (n : ℕ). (c.wrapping_sub_u64-high.result + n) % 2 ^ 64) (sym c.negative-2.ensures) ∙ c.wrapping_sub_u64-high.ensures.value)
+    let u = c.args.u in
+    let v = c.args.v in
+    let x = x_of u in
+    let y = y_of v in
+    let k = (high_of low u v x y % 2 ^ 64 + (2 ^ 64 - c.negative.result)) % 2 ^ 64 in
+    let r = (k + (2 ^ 64 - c.negative-2.result)) % 2 ^ 64 in
+    (λ i. c.from.ensures i * 2 ^ 64 + c.from-2.ensures i)
+    ∙ by_mask u v x y k r
+    c.ranges.u.fits c.ranges.v.fits (word _) (word _) (word _)
+    (wrapped (u / 2 ^ 32) (low u) (small (mask_lt u 32)) ∙ mod-eq_of_lt (small (shr_lt 32 32 c.ranges.u.fits)))
+    (wrapped (low v) (v / 2 ^ 32) (small (shr_lt 32 32 c.ranges.v.fits)) ∙ mod-eq_of_lt (small (mask_lt v 32)))
+    (ap (λ (n : ℕ). (k + n) % 2 ^ 64) (sym c.negative.ensures) ∙ wrapped _ c.negative.result c.negative.type_inv ∙ mod-eq_of_lt (word _))
+    (ap (λ (n : ℕ). (r + n) % 2 ^ 64) (sym c.negative-2.ensures) ∙ wrapped _ c.negative-2.result c.negative-2.type_inv ∙ mod-eq_of_lt (word _))

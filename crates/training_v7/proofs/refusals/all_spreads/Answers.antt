@@ -1,28 +1,13 @@
-use Rattle.std.proofs.Common.{◌≡◌, true, length, sym, ◌∙◌, subst, arith, rules}
-use borrow.Author.Tests.{not-true, not-false}
-use Rattle.domain.specs.Weights.{all}
-use Rattle.domain.proofs.weights.All.{none, more, miss}
+use Rattle.std.proofs.Common.{length, refl, ◌∙◌, rules, tests}
+use Rattle.std.proofs.lemmas.Iterator.{YieldsList-from_slice}
+use Rattle.std.proofs.lemmas.Iterator.Search.{all_from_yields_List}
+use lib.Ieee.{nan}
+use Rattle.domain.proofs.weights.All.{every}
 use Rattle.training_v7.specs.Penalty.{spread_good}
 use Rattle.training_v7.proofs.refusals.all_spreads.Goals as goal
 
-pub loop-i-init : goal.loop-i-init
-loop-i-init c = (search rules, search rules, none _ _)
-
-pub returns-then-not-is_spread : goal.returns-then-not-is_spread
-returns-then-not-is_spread c =
-    let l = c.loop-i in
-    let n = l.invariant.1 in
-    let e = sym c.is_spread.ensures ∙ not-true _ c.if-not-is_spread.true-raw in
-    sym (miss _ _ l.i _ (omega (arith, c.loop-i-test.true, n)) e)
-
-pub loop-i-preserved : goal.loop-i-preserved
-loop-i-preserved c =
-    let e = sym c.is_spread.ensures ∙ not-false _ c.if-not-is_spread.false-raw in
-    (search rules, search rules, more _ _ _ c.loop-i.invariant.2 e)
-
 pub returns : goal.returns
 returns c =
-    let l = c.loop-i in
-    let w = c.args.params_stddev.now in
-    let e : l.i ≡ length w = omega (arith, l.invariant.0, l.invariant.1, c.loop-i-test.false) in
-    sym (subst (λ k. all (λ j x. spread_good x) k w ≡ true) e l.invariant.2)
+    let s = c.args.params_stddev.now in
+    all_from_yields_List spread_good _ _ _ c.all.ensures.ran (YieldsList-from_slice s cc) (λ x b q k. search (rules, tests)) ∙
+    every spread_good (λ k x. spread_good x) s s nan (length s) (λ k h. refl) refl

@@ -1,4 +1,0 @@
-use Rattle.analytic_v6.proofs.step.is_unread.Goals as goal
-
-pub returns : goal.returns
-returns c = cc

@@ -1,7 +1,0 @@
-use Rattle.backward.specs.Slots.{clamp_grad}
-use Rattle.backward.proofs.slots.stability_grad.Goals as goal
-
-pub returns : goal.returns
-unfolding clamp_grad
-returns c =
-    rw (c.pass.ensures, c.is_stability.ensures)

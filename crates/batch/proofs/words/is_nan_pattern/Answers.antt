@@ -1,7 +1,0 @@
-use mathlib.Core.Path.{sym}
-use lib.Ieee.{binary32}
-use lib.Ieee.Bits.{nan_bits_above}
-use Rattle.batch.proofs.words.is_nan_pattern.Goals as goal
-
-pub returns : goal.returns
-returns c = sym (nan_bits_above binary32 c.args.b)

@@ -1,7 +1,0 @@
-use mathlib.Core.Path.{ap, ◌∙◌}
-use Rattle.checks.proofs.Placed.{card_grad_number}
-use Rattle.checks.specs.declared.fault.Fault.{Fault}
-use Rattle.checks.proofs.refusals.card_grad_refusal.Goals as goal
-
-pub returns : goal.returns
-returns c = ap (λ (f : Fault). f.refusal) c.card_loss_and_grad_fault-f.ensures ∙ card_grad_number _ _ _ _ _

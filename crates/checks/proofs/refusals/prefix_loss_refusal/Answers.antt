@@ -1,7 +1,0 @@
-use mathlib.Core.Path.{ap, ◌∙◌}
-use Rattle.checks.proofs.Placed.{prefix_loss_number}
-use Rattle.checks.specs.declared.fault.Fault.{Fault}
-use Rattle.checks.proofs.refusals.prefix_loss_refusal.Goals as goal
-
-pub returns : goal.returns
-returns c = ap (λ (f : Fault). f.refusal) c.batch_loss_fault-f.ensures ∙ prefix_loss_number _ _

@@ -1,7 +1,0 @@
-use Rattle.columns.proofs.scores.has_logs.Goals as goal
-
-pub returns-then-r : goal.returns-then-r
-returns-then-r c = rw c.if-r.true
-
-pub returns-else-r : goal.returns-else-r
-returns-else-r c = rw c.if-r.false

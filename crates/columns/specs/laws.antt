@@ -1,0 +1,3 @@
+-- Lemmas from which the laws of the layout of ten columns are proved.
+pub mod Apart
+pub mod Stored

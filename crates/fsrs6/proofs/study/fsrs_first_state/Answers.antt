@@ -1,7 +1,0 @@
-use mathlib.Core.Path.{ap}
-use Rattle.fsrs6.proofs.study.fsrs_first_state.Goals as goal
-
-pub returns : goal.returns
-returns c =
-    let e = c.first_state_scalar-a.ensures in
-    (ap (λ a. a.refusal) e, rw (c.put_f32.ensures, e), rw (c.put_f32-2.ensures, e))

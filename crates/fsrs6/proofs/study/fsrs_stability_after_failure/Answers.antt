@@ -1,6 +1,0 @@
-use mathlib.Core.Path.{ap}
-use Rattle.fsrs6.proofs.study.fsrs_stability_after_failure.Goals as goal
-
-pub returns : goal.returns
-returns c =
-    let e = c.stability_after_failure_scalar-failure.ensures in (ap (λ a. a.refusal) e, rw (c.put_f32.ensures, e))

@@ -1,6 +1,0 @@
-use Rattle.columns.specs.Records.{room_def}
-use Rattle.fsrs6.proofs.why.fsrs_card_loss_and_grad_fault.Goals as goal
-
-pub returns : goal.returns
-unfolding room_def
-returns c = rw (← c.align_of.ensures) c.card_loss_and_grad_fault.ensures

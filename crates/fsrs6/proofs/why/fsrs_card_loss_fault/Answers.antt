@@ -1,4 +1,0 @@
-use Rattle.fsrs6.proofs.why.fsrs_card_loss_fault.Goals as goal
-
-pub returns : goal.returns
-returns c = rw (← c.align_of.ensures) c.card_loss_fault.ensures

@@ -1,2 +1,0 @@
--- What the proofs of `half_away` share.
-mod Half

@@ -1,3 +1,0 @@
--- What the proofs of `pack` share.
-mod Exponent
-mod Packed

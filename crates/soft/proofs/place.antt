@@ -1,3 +1,0 @@
--- What the proofs of `place` share.
-mod Made
-mod Shift

@@ -1,2 +1,0 @@
--- What private functions promise one another: no reader of a public contract needs these.
-pub mod Lists
