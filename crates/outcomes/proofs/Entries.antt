@@ -1,4 +1,4 @@
--- One outcome of the loss entries, at any layout of the step records, and of the training step and its reverse; and demand 1 of those that can refuse:
+-- One outcome of the loss entries, at any layout of the step records, and of the training step and its reverse; and of those that lend, that
 -- a refused call leaves what it was lent as it was. Assumes nothing.
 use mathlib.Core.Path.{ap, ◌∙◌}
 use denote.RattleType.{RattleType}

@@ -1,4 +1,4 @@
--- Demand 3 of the four loss entries: their contracts, and `promises` of the definitions that these name. Assumes nothing.
+-- What the four loss entries do not read does not count: their contracts, and `promises` of the definitions that these name. Assumes nothing.
 use mathlib.Core.List.{List}
 use mathlib.Core.Path.{sym, ap, ◌∙◌}
 use lib.Ieee.{Float}

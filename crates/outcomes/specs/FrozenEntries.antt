@@ -1,4 +1,4 @@
--- Demand 3 of the four loss entries themselves, at any mode and, with a gradient, at any layout of the step records: said of their own contracts, as `promises` says it of the definitions. Assumes nothing.
+-- What is not read does not count, and what may not move stays: of the four loss entries themselves, at any mode and, with a gradient, at any layout of the step records: said of their own contracts, as `promises` says it of the definitions. Assumes nothing.
 use Rattle.std.specs.Prelude.{ℕ, false, List, ◌≡◌, Float, length}
 use contract.Lifetimes.{Lfts}
 use denote.RattleType.{RattleType}
