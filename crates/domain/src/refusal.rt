@@ -1,6 +1,6 @@
 // Why a call is refused, and its number, which a C function returns: 0 is for none.
 ghost use Rattle.std.specs.Prelude.{◌≡◌};
-ghost use Rattle.domain.specs.Refusals.{number, number_of};
+ghost use Rattle.domain.specs.Refusals.{number};
 
 use std::error::Error;
 use std::fmt;
@@ -77,15 +77,5 @@ impl<T: Copy> From<Refused<T>> for Refusal {
 
     fn from(r: Refused<T>) -> Refusal {
         r.refusal
-    }
-}
-
-/// The number of what a test answered: 0 where it passed.
-pub fn number_of(r: Result<(), Refusal>) -> u32
-    ensures { result ≡ number_of r }
-{
-    match r {
-        Ok(()) => 0,
-        Err(e) => e.number(),
     }
 }

@@ -23,7 +23,6 @@ use Rattle.domain.proofs.Refusals.{same_answer, taken_one}
 use Rattle.domain.proofs.refusal.Refusal.number
 use Rattle.domain.proofs.refusal.U32FromRefusal.from
 use Rattle.domain.proofs.refusal.RefusalFromRefused.from as refused_from
-use Rattle.domain.proofs.refusal.number_of
 use Rattle.domain.proofs.weights.check_weights
 use Rattle.domain.proofs.weights.WeightsTryFromRefSliceF32.try_from
 use Rattle.model_v6.proofs.Results.{answered_one, state_answered_one, step_answered_one, seen_answered_one, filled_answered_one, row_answered_one}
@@ -166,9 +165,6 @@ one_number = one (λ κs a o c. c ⨾ none ⨾ end)
 
 pub one_u32_from : One from.Kinds.ps from.Kinds.r from.Reads.Post
 one_u32_from = one (λ κs a o c. c ⨾ none ⨾ end)
-
-pub one_number_of : One number_of.Kinds.ps number_of.Kinds.r number_of.Reads.Post
-one_number_of = one (λ κs a o c. c ⨾ none ⨾ end)
 
 pub one_check_weights : One check_weights.Kinds.ps check_weights.Kinds.r check_weights.Reads.Post
 one_check_weights = one_by (λ κs x y h. same_answer x y h (λ u v p q. refl)) (λ κs a o c. c ⨾ none ⨾ end)
