@@ -1,2 +1,2 @@
--- Definitions that only the laws of proofs/ cite; no reader of the public contract needs them.
+-- Definitions that only the contracts of private functions cite; no reader of the public contract needs them.
 pub mod Over

@@ -1,4 +1,4 @@
--- A card with no row, and one with rows: its walk over the records and step gradients that it left is the walk over its steps and scores. Assumes nothing.
+-- A card with no row, and one with rows: its walk over the lent records and step gradients, and that over those that it left is the walk over its steps and scores. Assumes nothing.
 use Rattle.std.proofs.Common.{◌≡◌, ℕ, ◌-◌, ◌≤◌, ◌<◌, List, length, get_or, set, ◌∙◌, arith, eq-eqb, ne_eqb, ne_of_lt, get_or-set_other}
 use lib.Ieee.{Float}
 use Rattle.domain.specs.Doubles.{zero64}
@@ -13,6 +13,7 @@ use Rattle.columns.specs.Layouts.{left_by}
 use Rattle.columns.specs.declared.forward_pass.Run.{Run}
 use Rattle.columns.proofs.Kept.{back_same, grads_read}
 use Rattle.analytic_v6.specs.Cards.{card_loss_def, card_slots_def, card_left, card_grads_def}
+use Rattle.analytic_v6.specs.inner.Over.{card_back_in}
 
 module _ (p : RuntimeParams) (x : Cards) (column : ℕ) where
   module _ (none : 1 ≤ length_at x.table column → ⊥) where
@@ -22,6 +23,12 @@ module _ (p : RuntimeParams) (x : Cards) (column : ℕ) where
     pub empty_loss : zero64 ≡ card_loss_def p x column
     unfolding card_loss_def
     empty_loss = rw (eq-eqb _ 0 zero_rows)
+
+    pub empty_back :
+        {A : Type 0} (store : List A → ℕ → StepRecord → List A) (load : List A → ℕ → StepRecord) (records : List A) (step_grads gw : List Float) →
+        gw ≡ card_back_in p x store load column records step_grads gw
+    unfolding card_back_in
+    empty_back store load records step_grads gw = rw (eq-eqb _ 0 zero_rows)
 
     pub empty_slots : (gw : List Float) → gw ≡ card_slots_def p x column gw
     unfolding card_slots_def
@@ -51,6 +58,14 @@ module _ (p : RuntimeParams) (x : Cards) (column : ℕ) where
       pub loss_of : last_loss_def p (last - h.first) run.state.s t.day t.label t.weight run.loss ≡ card_loss_def p x column
       unfolding card_loss_def run_at
       loss_of = rw (ne_eqb _ 0 rows, is-run, is-target, is-last, is-history, is-label, is-weight)
+
+      pub back_of :
+          {A : Type 0} (store : List A → ℕ → StepRecord → List A) (load : List A → ℕ → StepRecord) (records : List A) (step_grads gw : List Float) →
+          back_def p (λ i. load records i) (λ i. get_or step_grads i zero64) last
+          (start_grad (last_grad p (last - h.first) run.state.s t.day t.label t.weight)) (last_slots p (last - h.first) run.state.s t.day t.label t.weight gw) ≡
+          card_back_in p x store load column records step_grads gw
+      unfolding card_back_in run_at
+      back_of store load records step_grads gw = rw (ne_eqb _ 0 rows, is-run, is-target, is-last, is-history, is-label, is-weight)
 
       walk_of :
           (gw : List Float) →

@@ -1,9 +1,9 @@
 //! The card loss with its gradient.
-ghost use Rattle.std.specs.Prelude.{◌≡◌, ◌≤◌, length};
-ghost use Rattle.checks.specs.Batch.{length_at};
+ghost use Rattle.std.specs.Prelude.{◌≡◌, length};
 ghost use Rattle.checks.specs.Decks.{cards_now};
-ghost use Rattle.analytic_v6.specs.Cards.{card_loss_def, card_slots_def, card_grads_def, card_left, cards_loss_and_grad, cards_slots, cards_left, cards_grads};
+ghost use Rattle.analytic_v6.specs.Cards.{card_loss_def, card_grads_def, card_left, cards_loss_and_grad, cards_slots, cards_left, cards_grads};
 ghost use Rattle.analytic_v6.specs.Results.{answered};
+ghost use Rattle.analytic_v6.specs.inner.Over.{card_back_in};
 
 use checks::deck::Cards;
 use checks::places::card_loss_and_grad_fault;
@@ -17,7 +17,7 @@ use domain::weights::copy_weights;
 use forward::parameters::RuntimeParams;
 
 // `card_column_loss_and_grad`: forward into the records and step gradients, the last row, which is scored by itself, and backward
-// over the records. A card of no rows has none.
+// over whatever records and step gradients lie there then. A card of no rows has none.
 fn column_loss_and_grad<L: Layout>(
     p: &RuntimeParams,
     deck: &Cards<'_>,
@@ -26,10 +26,8 @@ fn column_loss_and_grad<L: Layout>(
     records: &mut [L::Cell],
     step_grads: &mut [f64],
 ) -> f64
-    requires records_fit { length_at (cards_now deck.now).table column ≤ L.room (length records.old) }
-    requires step_grads_fit { length_at (cards_now deck.now).table column ≤ length step_grads.old }
     ensures loss { result ≡ card_loss_def p.now (cards_now deck.now) column }
-    ensures slots { gw.new ≡ card_slots_def p.now (cards_now deck.now) column gw.old }
+    ensures slots { gw.new ≡ card_back_in p.now (cards_now deck.now) L.store L.load column records.new step_grads.new gw.old }
     ensures records { records.new ≡ card_left p.now (cards_now deck.now) column L.store records.old }
     ensures step_grads { step_grads.new ≡ card_grads_def p.now (cards_now deck.now) column step_grads.old }
 {

@@ -1,9 +1,9 @@
 //! The prefix loss with its gradient.
-ghost use Rattle.std.specs.Prelude.{◌≡◌, ◌≤◌, length};
-ghost use Rattle.checks.specs.Batch.{length_at};
+ghost use Rattle.std.specs.Prelude.{◌≡◌, length};
 ghost use Rattle.checks.specs.Decks.{prefixes_now};
-ghost use Rattle.analytic_v6.specs.Prefixes.{prefix_loss_def, prefix_slots_def, prefix_left, batch_loss_and_grad_def, batch_slots, batch_left};
+ghost use Rattle.analytic_v6.specs.Prefixes.{prefix_loss_def, prefix_left, batch_loss_and_grad_def, batch_slots, batch_left};
 ghost use Rattle.analytic_v6.specs.Results.{answered};
+ghost use Rattle.analytic_v6.specs.inner.Over.{prefix_back_in};
 
 use checks::deck::Prefixes;
 use checks::places::batch_loss_and_grad_fault;
@@ -15,7 +15,7 @@ use domain::refusal::Refusal;
 use domain::weights::copy_weights;
 use forward::parameters::RuntimeParams;
 
-// `prefix_loss_and_grad`: forward into the records, the target, and backward over the records.
+// `prefix_loss_and_grad`: forward into the records, the target, and backward over whatever records lie there then.
 #[tactic(auto, unfolding(crate::specs::Prefixes::prefix_loss_def))]
 fn column_loss_and_grad<L: Layout>(
     p: &RuntimeParams,
@@ -24,9 +24,8 @@ fn column_loss_and_grad<L: Layout>(
     gw: &mut [f64],
     records: &mut [L::Cell],
 ) -> f64
-    requires { length_at (prefixes_now deck.now).table column ≤ L.room (length records.old) }
     ensures loss { result ≡ prefix_loss_def p.now (prefixes_now deck.now) column }
-    ensures slots { gw.new ≡ prefix_slots_def p.now (prefixes_now deck.now) column gw.old }
+    ensures slots { gw.new ≡ prefix_back_in p.now (prefixes_now deck.now) L.store L.load column records.new gw.old }
     ensures records { records.new ≡ prefix_left p.now (prefixes_now deck.now) column L.store records.old }
 {
     let n = deck.table.length(column);

@@ -1,7 +1,5 @@
-use Rattle.std.proofs.Common.{arith}
 use Rattle.checks.specs.Decks.{cards_now, history_at, rows_of, weights_at}
-use Rattle.columns.proofs.Left.{left_read}
-use Rattle.analytic_v6.proofs.cards.Columns.{empty_loss, empty_slots, empty_left, empty_grads, loss_of, slots_of, grads_of}
+use Rattle.analytic_v6.proofs.cards.Columns.{empty_loss, empty_back, empty_left, empty_grads, loss_of, back_of, grads_of}
 use Rattle.analytic_v6.proofs.cards.grad.column_loss_and_grad.Goals as goal
 
 pub returns-in_default : goal.returns-in_default
@@ -10,7 +8,7 @@ returns-in_default g c =
     let none = rw c.length.ensures at c.in_default.ensures in
     record {
       loss = empty_loss _ x _ none;
-      slots = empty_slots _ x _ none _;
+      slots = empty_back _ x _ none _ _ _ _ _;
       records = empty_left _ x _ none _ _;
       step_grads = empty_grads _ x _ none _;
     }
@@ -31,13 +29,10 @@ returns-clause-slots g c =
     let h = history_at card.result.history in
     let run = c.card_forward_recorded-run in
     let found = rw c.length.ensures at c.in-Some.ensures in
-    let last = c.in-Some.last in
-    rw (c.column_backward.ensures, c.put_cell.ensures, c.last_end-end.ensures.end, c.last_end-end.ensures.slots, run.ensures.step_grads, c.saturating_sub-number.ensures)
-    (slots_of p (cards_now c.args.deck.now) c.args.column found.0 last found.1 h card.ensures.history
+    rw (c.column_backward.ensures, c.last_end-end.ensures.end, c.last_end-end.ensures.slots, c.saturating_sub-number.ensures)
+    (back_of p (cards_now c.args.deck.now) c.args.column found.0 c.in-Some.last found.1 h card.ensures.history
     (rows_of card.result.labels) card.ensures.labels (weights_at card.result) card.ensures.weights run.result c.target.result run.ensures.run c.target.ensures
-    _ c.args.step_grads.now c.args.gw.now
-    (λ i k. rw run.ensures.records (left_read p h g.L.Layout.store g.L.Layout.room g.L.Layout.load g.met.L.Layout.laws last i c.args.records.now (omega (arith, c.requires.records_fit, found.1)) k))
-    c.requires.step_grads_fit)
+    g.L.Layout.store g.L.Layout.load run.new.records c.put_cell.new.xs c.args.gw.now)
 
 pub returns-clause-step_grads : goal.returns-clause-step_grads
 returns-clause-step_grads g c =
