@@ -2,16 +2,20 @@
 ghost use Rattle.std.specs.Prelude.{◌≡◌};
 ghost use Rattle.checks.specs.Align.{align_of};
 ghost use Rattle.checks.specs.Batch.{prefixes_in_def, cards_in_def};
-ghost use Rattle.fsrs6.specs.Why.{batch_fault, batch_grad_fault, card_fault, card_grad_fault, explained_step};
+ghost use Rattle.checks.specs.Faults.{fault_of};
+ghost use Rattle.explain.specs.Results.{explain_answered};
+ghost use Rattle.fsrs6.specs.Why.{numbered, told, batch_fault, batch_grad_fault, card_fault, card_grad_fault, explained_step};
 
 use checks::align::Align;
 use checks::deck::{Cards, Prefixes, Table};
+use checks::fault::{Fault, Place};
 use checks::places::{
     batch_loss_and_grad_fault, batch_loss_fault, card_loss_and_grad_fault, card_loss_fault,
 };
 use columns::layout::Layout;
 use columns::records::Columns;
-use explain::step::explain_step;
+use domain::refusal::Refusal;
+use explain::step::{Explained, explain_step};
 use forward::state::State;
 
 // Stays: the C interface fixes the names and the parameters of these functions, of which many take eight and more.
@@ -27,6 +31,28 @@ pub struct ReasonNumbers {
     pub difficulty_held: u32,
 }
 
+impl From<Result<Explained, Refusal>> for ReasonNumbers {
+    ghost from_gives = { λ answer numbers. numbers ≡ numbered (explain_answered answer) };
+
+    #[tactic(auto, unfolding(crate::specs::Why::numbered, explain::specs::Reasons::reason_number_def, explain::specs::Reasons::held_number_def))]
+    fn from(answer: Result<Explained, Refusal>) -> ReasonNumbers {
+        match answer {
+            Ok(why) => ReasonNumbers {
+                refusal: 0,
+                reason: u32::from(why.reason),
+                stability_held: u32::from(why.stability),
+                difficulty_held: u32::from(why.difficulty),
+            },
+            Err(refusal) => ReasonNumbers {
+                refusal: refusal.number(),
+                reason: 0,
+                stability_held: 0,
+                difficulty_held: 0,
+            },
+        }
+    }
+}
+
 /// The refusal, 0 where there is none, and the cell that is bad. Column and row are 0 where no cell is the reason.
 #[repr(C)]
 #[derive(Clone, Copy, Debug, PartialEq, Eq, Hash)]
@@ -34,6 +60,29 @@ pub struct FaultNumbers {
     pub refusal: u32,
     pub column: u32,
     pub row: u32,
+}
+
+impl From<Result<(), Fault>> for FaultNumbers {
+    ghost from_gives = { λ checked numbers. numbers ≡ told (fault_of checked) };
+
+    fn from(checked: Result<(), Fault>) -> FaultNumbers {
+        let (refusal, place) = match checked {
+            Ok(()) => (0, None),
+            Err(fault) => (fault.refusal.number(), fault.place),
+        };
+        match place {
+            None => FaultNumbers {
+                refusal,
+                column: 0,
+                row: 0,
+            },
+            Some(Place { column, row }) => FaultNumbers {
+                refusal,
+                column,
+                row,
+            },
+        }
+    }
 }
 
 pub fn fsrs_explain_step(

@@ -40,6 +40,8 @@ use Rattle.fsrs6.proofs.penalty.fsrs_l2_penalty
 use Rattle.fsrs6.proofs.initialization.fsrs_initial_stability
 use Rattle.fsrs6.proofs.file.fsrs_batch_file
 use Rattle.fsrs6.proofs.file.fsrs_batch_file_fault
+use Rattle.fsrs6.proofs.why.ReasonNumbersFromResultExplainedRefusal.from as reason_numbers_from
+use Rattle.fsrs6.proofs.why.FaultNumbersFromResultUnitFault.from as fault_numbers_from
 use Rattle.fsrs6.proofs.why.fsrs_explain_step
 use Rattle.fsrs6.proofs.why.fsrs_batch_loss_fault
 use Rattle.fsrs6.proofs.why.fsrs_batch_loss_and_grad_fault
@@ -174,6 +176,12 @@ pub one_fsrs_batch_file_fault : One fsrs_batch_file_fault.Kinds.ps fsrs_batch_fi
 one_fsrs_batch_file_fault = one (λ κs a o c. c ⨾ none ⨾ end)
 
 -- fsrs6::why
+pub one_reason_numbers_from : One reason_numbers_from.Kinds.ps reason_numbers_from.Kinds.r reason_numbers_from.Reads.Post
+one_reason_numbers_from = one (λ κs a o c. c ⨾ none ⨾ end)
+
+pub one_fault_numbers_from : One fault_numbers_from.Kinds.ps fault_numbers_from.Kinds.r fault_numbers_from.Reads.Post
+one_fault_numbers_from = one (λ κs a o c. c ⨾ none ⨾ end)
+
 pub one_fsrs_explain_step : One fsrs_explain_step.Kinds.ps fsrs_explain_step.Kinds.r fsrs_explain_step.Reads.Post
 one_fsrs_explain_step = one (λ κs a o c. c ⨾ none ⨾ none ⨾ none ⨾ none ⨾ none ⨾ none ⨾ end)
 

@@ -7,6 +7,7 @@ use borrow.Fn.Kinds.{Dens}
 use Rattle.std.specs.Prelude.{◌<◌, ◌^◌}
 use Rattle.outcomes.specs.Outcome.{One, Outcome, Satisfies, one}
 use Rattle.outcomes.proofs.Tuples.{◌⨾◌, none, end}
+use Rattle.outcomes.proofs.Words.{OnePair, one_pair}
 use Rattle.soft.proofs.wide.product
 use Rattle.soft.proofs.shifts.shr
 use Rattle.soft.proofs.shifts.digits64
@@ -29,6 +30,10 @@ use Rattle.kernels.proofs.pow_ln.pow_ln_f64
 pub one_product : One product.Kinds.ps product.Kinds.r product.Reads.Post
 one_product = one (λ κs a o c. c ⨾ none ⨾ none ⨾ end)
 
+-- two words stand for a product in one way only
+pub pair_product : OnePair product.Kinds.ps product.Reads.Post
+pair_product = one_pair one_product
+
 -- what answers is a value of its type: a product is two words, the lower one below 2 ^ 64
 pub words_product : (κs : Lfts 0) (a : Dens κs product.Kinds.ps) (o : Outcome product.Kinds.ps product.Kinds.r κs a) → Satisfies product.Kinds.ps product.Kinds.r product.Reads.Post κs a o → o.0 < 2 ^ 128
 words_product κs a o c = c.0
@@ -36,6 +41,9 @@ words_product κs a o c = c.0
 -- soft::shifts
 pub one_shr : One shr.Kinds.ps shr.Kinds.r shr.Reads.Post
 one_shr = one (λ κs a o c. c ⨾ none ⨾ none ⨾ end)
+
+pub pair_shr : OnePair shr.Kinds.ps shr.Reads.Post
+pair_shr = one_pair one_shr
 
 pub one_digits64 : One digits64.Kinds.ps digits64.Kinds.r digits64.Reads.Post
 one_digits64 = one (λ κs a o c. c ⨾ none ⨾ end)

@@ -2,3 +2,4 @@ pub mod FiniteEntries
 pub mod FrozenEntries
 pub mod Outcome
 pub mod Passes
+pub mod Walked
