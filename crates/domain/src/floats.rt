@@ -3,9 +3,8 @@ ghost use Rattle.std.specs.Prelude.{◌≡◌};
 ghost use Rattle.std.specs.Float.Ieee.Scale.{finite};
 ghost use Rattle.domain.specs.Floats.{clamp_def, max_def, min_def, within};
 
-/// The same where x lies outside: rare, and a call of its own, so that an x within waits for nothing.
+/// The same where x lies outside: rare, so that an x within waits for nothing. No call of its own: each row of padding in front of a history comes here twice.
 #[cold]
-#[inline(never)]
 #[tactic(auto, unfolding(crate::specs::Floats::clamp_def))]
 fn clamped(x: f32, low: f32, high: f32) -> f32
     ensures { result ≡ clamp_def x low high }

@@ -77,7 +77,9 @@ fn read_full(reader: &mut impl Read, bytes: &mut [u8]) -> io::Result<usize>
     Ok(n)
 }
 
-// Runs the list in a file of fewer than N bytes.
+// Runs the list in a file of fewer than N bytes. Never inlined: where `main` takes one of its calls in, the room for that list's text stays on the stack below
+// the others'.
+#[inline(never)]
 fn run_open<L: List, const N: usize>(rt: &impl Print, file: &mut impl Read) -> io::Result<()>
     requires { N < 2 ^ 63 }
 {
