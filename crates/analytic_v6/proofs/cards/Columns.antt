@@ -30,10 +30,6 @@ module _ (p : RuntimeParams) (x : Cards) (column : ℕ) where
     unfolding card_back_in
     empty_back store load records step_grads gw = rw (eq-eqb _ 0 zero_rows)
 
-    pub empty_slots : (gw : List Float) → gw ≡ card_slots_def p x column gw
-    unfolding card_slots_def
-    empty_slots gw = rw (eq-eqb _ 0 zero_rows)
-
     pub empty_left : {A : Type 0} (store : List A → ℕ → StepRecord → List A) (records : List A) → records ≡ card_left p x column store records
     unfolding left_by
     empty_left store records = rw zero_rows
