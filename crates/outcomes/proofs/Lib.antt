@@ -7,7 +7,7 @@ pub mod Formulas
 pub mod Steps
 pub mod Checks
 pub mod Columns
-pub mod Walked
+pub mod StepRecords
 pub mod Entries
 pub mod Losses
 pub mod Face

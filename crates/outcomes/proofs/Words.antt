@@ -11,6 +11,7 @@ pub record Pair (w h l : ℕ) : Type 0 where
   pub value : w ≡ h * 2 ^ 64 + l
   pub low_below : l < 2 ^ 64
 
+-- every number has a pair
 pub parted : (w : ℕ) → Pair w (w / 2 ^ 64) (w % 2 ^ 64)
 parted w = record { value = sym (div-add-mod' w (2 ^ 64)); low_below = mod-lt w (pow_pos 64) }
 

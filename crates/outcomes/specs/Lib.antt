@@ -2,4 +2,4 @@ pub mod FiniteEntries
 pub mod FrozenEntries
 pub mod Outcome
 pub mod Passes
-pub mod Walked
+pub mod StepRecords

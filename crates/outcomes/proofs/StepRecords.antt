@@ -20,7 +20,7 @@ use Rattle.columns.proofs.forward_pass.card_forward_recorded
 use Rattle.analytic_v6.proofs.Left.{batch_in_steps, cards_in_steps}
 use Rattle.analytic_v6.proofs.prefixes.grad.batch_loss_and_grad
 use Rattle.analytic_v6.proofs.cards.grad.card_loss_and_grad
-use Rattle.outcomes.specs.Walked.{States, prefix_forward_steps_claim, card_forward_steps_claim, prefix_backward_steps_claim, column_backward_steps_claim, batch_loss_and_grad_claim, card_loss_and_grad_claim}
+use Rattle.outcomes.specs.StepRecords.{States, prefix_forward_steps_claim, card_forward_steps_claim, prefix_backward_steps_claim, column_backward_steps_claim, batch_loss_and_grad_claim, card_loss_and_grad_claim}
 
 module _ (L1 : Laws Steps) (L2 : Laws StepRecord) (K : IsCopy StepRecord) (D1 : Dict) (G2 : Clone.Ghosts StepRecord.Denot) (D2 : Dict) where
   -- columns::forward_pass
